@@ -1,2 +1,11 @@
 pub mod Lists
 pub mod Refusals
+pub mod Slots
+pub mod Round
+pub mod Sender
+pub mod Desk
+pub mod Machine
+pub mod Life
+pub mod Values
+pub mod Story
+pub mod Law

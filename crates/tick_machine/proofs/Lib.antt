@@ -3,3 +3,5 @@ pub mod Counts
 pub mod Ownership
 pub mod Windows
 pub mod Slots
+pub mod Tidy
+pub mod OwedSlots

@@ -3,5 +3,6 @@ pub mod Counts
 pub mod Ownership
 pub mod Windows
 pub mod Slots
-pub mod Tidy
+pub mod Known
 pub mod OwedSlots
+pub mod Work

@@ -12,17 +12,17 @@ use Rattle.std.proofs.shelf.Ways.{tells}
 use Rattle.std.proofs.shelf.Tests.{cases-eq, cases-lt, ne-eqb, eq-eqb, ltb-true, lt-ltb, cond-both, cond-true}
 use Rattle.tick_machine.specs.Lists.{only, All, none, more, Rising, insert-all, final}
 use Rattle.tick_machine.specs.Slots.{owner}
-use Rattle.tick_machine.specs.Round.{fresh-round, granted, stamp, grant, add, serve}
+use Rattle.tick_machine.specs.Round.{Round, fresh-round, granted, stamp, grant, add, serve}
 use Rattle.tick_machine.specs.Owed.{from, kept, greatest, owed-slots, shown-round}
 use Rattle.tick_machine.proofs.Lists.{head, tail, all-map, all-zip, all-insert-all, rising-insert-all, total-insert-all, only-yes, only-no}
 use Rattle.tick_machine.proofs.Slots.{Fresh, fresh}
-use Rattle.tick_machine.proofs.Tidy.{times, Known, known-apart, known-more, known-new}
+use Rattle.tick_machine.proofs.Known.{times, Known, known-apart, known-more, known-new}
 
-abbrev There : ℕ → List ℕ → Type 0
+abbrev pub There : ℕ → List ℕ → Type 0
 There q os = 1 ≤ times q os
 
 -- what holds of each holds of one that is there
-all-there : (P : ℕ → Type 0) (q : ℕ) (os : List ℕ) → All P os → There q os → P q
+pub all-there : (P : ℕ → Type 0) (q : ℕ) (os : List ℕ) → All P os → There q os → P q
 all-there P q [] h t = absurd (omega arith)
 all-there P q (o ∷ os) h t =
     ⊎-elim
@@ -33,14 +33,14 @@ all-there P q (o ∷ os) h t =
 there-head : (q : ℕ) (os : List ℕ) → There q (q ∷ os)
 there-head q os = grind (arith, tells)
 
-least-there : (o q : ℕ) (os : List ℕ) → Rising (λ s. s) (o ∷ os) → There q (o ∷ os) → o ≤ q
+pub least-there : (o q : ℕ) (os : List ℕ) → Rising (λ s. s) (o ∷ os) → There q (o ∷ os) → o ≤ q
 least-there o q os r t = all-there (λ s. o ≤ s) q (o ∷ os) (more (omega arith) (all-map (r .0) (λ s l. omega arith))) t
 
 there-later : (o q : ℕ) (os : List ℕ) → o < q → There q (o ∷ os) → There q os
 there-later o q os l t = grind (arith, tells)
 
 -- two rising lists of the same slots are one
-rising-same : (xs ys : List ℕ) → Rising (λ s. s) xs → Rising (λ s. s) ys → ((q : ℕ) → There q xs → There q ys) → ((q : ℕ) → There q ys → There q xs) → xs ≡ ys
+pub rising-same : (xs ys : List ℕ) → Rising (λ s. s) xs → Rising (λ s. s) ys → ((q : ℕ) → There q xs → There q ys) → ((q : ℕ) → There q ys → There q xs) → xs ≡ ys
 rising-same [] [] r s f g = refl
 rising-same [] (y ∷ ys) r s f g = absurd (omega (arith, g y (there-head y ys)))
 rising-same (x ∷ xs) [] r s f g = absurd (omega (arith, f x (there-head x xs)))
@@ -170,3 +170,21 @@ shown-fresh ws =
 pub shown-add : (ws : List ℕ) (i n v : ℕ) (next : List ℕ) → All (λ w. 1 ≤ w) ws → i < length ws → length next ≡ length ws → 1 ≤ n
     → add ws i n (shown-round ws v next) ≡ shown-round ws v (set next i (stamp ws i n (shown-round ws v next) + 1))
 shown-add ws i n v next h l e s = shown-grant ws i n v next (omega arith) (fresh ws i n (max v (getD next i 0)) h l s)
+
+-- what a round server of that form is: the owed slots rise, none is below the cursor, each is below its owner's next, and none is left out
+pub record Tidy (ws : List ℕ) (r : Round) : Type 0 where
+  pub rising : Rising (λ s. s) (r .owed)
+  pub ahead : All (λ q. r .cursor ≤ q) (r .owed)
+  pub known : All (Known ws (r .next)) (r .owed)
+  pub full : (q : ℕ) → r .cursor ≤ q → Known ws (r .next) q → There q (r .owed)
+
+pub shown-tidy : (ws : List ℕ) (r : Round) → r ≡ shown-round ws (r .cursor) (r .next) → Tidy ws r
+shown-tidy ws r e =
+    let v = r .cursor in
+    let next = r .next in
+    subst (Tidy ws) (sym e) (record {
+      rising = shown-rising ws v next;
+      ahead = all-map (shown-all ws v next) (λ q h. h .0);
+      known = all-map (shown-all ws v next) (λ q h. h .1);
+      full = shown-there ws v next;
+    })

@@ -6,3 +6,7 @@ pub mod Slots
 pub mod Known
 pub mod OwedSlots
 pub mod Work
+pub mod Serving
+pub mod Good
+pub mod Tick
+pub mod Accept

@@ -12,7 +12,7 @@ use Rattle.std.proofs.shelf.Ways.{tells}
 use Rattle.std.proofs.shelf.Tests.{cases-eq, cases-lt, ne-eqb, eq-eqb, ltb-true, lt-ltb, cond-both, cond-true}
 use Rattle.tick_machine.specs.Lists.{only, All, none, more, Rising, insert-all, final}
 use Rattle.tick_machine.specs.Slots.{owner}
-use Rattle.tick_machine.specs.Round.{Round, fresh-round, granted, stamp, grant, add, serve}
+use Rattle.tick_machine.specs.Round.{Round, fresh-round, granted, stamp, grant, add, serve, round-tick}
 use Rattle.tick_machine.specs.Owed.{from, kept, greatest, owed-slots, shown-round}
 use Rattle.tick_machine.proofs.Lists.{head, tail, all-map, all-zip, all-insert-all, rising-insert-all, total-insert-all, only-yes, only-no}
 use Rattle.tick_machine.proofs.Slots.{Fresh, fresh}
@@ -188,3 +188,21 @@ shown-tidy ws r e =
       known = all-map (shown-all ws v next) (λ q h. h .1);
       full = shown-there ws v next;
     })
+
+-- a round server of that form keeps it, by a tick and by a packet
+pub tick-shown : (ws : List ℕ) (r : Round) → r ≡ shown-round ws (r .cursor) (r .next)
+    → round-tick r ≡ shown-round ws (round-tick r .cursor) (round-tick r .next)
+tick-shown ws r e = subst (λ x. round-tick x ≡ shown-round ws (round-tick x .cursor) (round-tick x .next)) (sym e) (go (r .cursor) (r .next))
+  where
+    keeps : (os : List ℕ) (x : Round) → x .next ≡ serve os x .next
+    keeps [] x = refl
+    keeps (q ∷ qs) x = refl
+
+    go : (v : ℕ) (next : List ℕ) → round-tick (shown-round ws v next) ≡ shown-round ws (round-tick (shown-round ws v next) .cursor) (round-tick (shown-round ws v next) .next)
+    go v next =
+        shown-serve ws v next
+        ∙ ap (shown-round ws (round-tick (shown-round ws v next) .cursor)) (keeps (shown-round ws v next .owed) (shown-round ws v next))
+
+pub add-shown : (ws : List ℕ) (i n : ℕ) (r : Round) → All (λ w. 1 ≤ w) ws → i < length ws → length (r .next) ≡ length ws → 1 ≤ n
+    → r ≡ shown-round ws (r .cursor) (r .next) → add ws i n r ≡ shown-round ws (add ws i n r .cursor) (add ws i n r .next)
+add-shown ws i n r h l m s e = subst (λ x. add ws i n x ≡ shown-round ws (add ws i n x .cursor) (add ws i n x .next)) (sym e) (shown-add ws i n (r .cursor) (r .next) h l m s)

@@ -10,3 +10,5 @@ pub mod Serving
 pub mod Good
 pub mod Tick
 pub mod Accept
+pub mod Figures
+pub mod Level

@@ -12,3 +12,4 @@ pub mod Tick
 pub mod Accept
 pub mod Figures
 pub mod Level
+pub mod Bound

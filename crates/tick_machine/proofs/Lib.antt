@@ -13,3 +13,7 @@ pub mod Accept
 pub mod Figures
 pub mod Level
 pub mod Bound
+pub mod Places
+pub mod Fits
+pub mod Histories
+pub mod Small

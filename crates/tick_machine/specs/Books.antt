@@ -67,17 +67,19 @@ Totals-add-up c y =
     let m = y .machine in
     length (m .sender .waiting) + on-line (m .sender .line) + length (m .desk .left) + length (m .desk .out) + m .desk .filed + m .desk .returned ≡ m .count
 
--- how often the number k is held: by a packet that waits, is sent, has left, or is out
-abbrev pub line-holds : ℕ → Line → ℕ
-line-holds k free = 0
-line-holds k (sending p started n) = only (eqb (p .number) k) 1
+-- the sum of f over the numbers of the unsettled packets: those that wait, are sent, have left, or are out
+abbrev pub over-line : (ℕ → ℕ) → Line → ℕ
+over-line f free = 0
+over-line f (sending p started n) = f (p .number)
 
+abbrev pub over : (ℕ → ℕ) → Machine → ℕ
+over f m =
+    total (λ (p : Packet). f (p .number)) (m .sender .waiting) + over-line f (m .sender .line) + total (λ (d : Departed). f (d .packet .number)) (m .desk .left)
+    + total f (m .desk .out)
+
+-- how many of them have the number k
 abbrev pub holds : ℕ → Machine → ℕ
-holds k m =
-    total (λ (p : Packet). only (eqb (p .number) k) 1) (m .sender .waiting)
-    + line-holds k (m .sender .line)
-    + total (λ (d : Departed). only (eqb (d .packet .number) k) 1) (m .desk .left)
-    + total (λ x. only (eqb x k) 1) (m .desk .out)
+holds k m = over (λ x. only (eqb x k) 1) m
 
 -- between ticks, a packet on the line has some bytes left and not all
 abbrev pub Under-way : Line → Type 0

@@ -98,7 +98,7 @@ accept-bounded c y i n tag some h l f g g′ =
     let near = stamp-near (c .weights) i n (y .machine .round) h l (omega (arith, g .many)) (tidy g′) f in
     omega arith
 
-own-within : (ws : List ℕ) (i : ℕ) (os : List ℕ) → own ws i os ≤ length os
+pub own-within : (ws : List ℕ) (i : ℕ) (os : List ℕ) → own ws i os ≤ length os
 own-within ws i [] = omega arith
 own-within ws i (q ∷ qs) = let ih = own-within ws i qs in grind (arith, tells)
 

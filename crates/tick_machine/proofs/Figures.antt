@@ -13,24 +13,55 @@ use Rattle.std.proofs.shelf.Ways.{tells}
 use Rattle.std.proofs.shelf.Tests.{cases-eq, eq-eqb, ne-eqb}
 use Rattle.tick_machine.specs.Lists.{total, only, All, none, more}
 use Rattle.tick_machine.specs.Slots.{round-length, owner}
-use Rattle.tick_machine.specs.Round.{Round, granted, stamp, serve, served-slot}
+use Rattle.tick_machine.specs.Round.{Round, owed-to, granted, stamp, serve, served-slot}
 use Rattle.tick_machine.specs.Sender.{Packet, Departed, Line, free, sending, Sender, onward, leaving, byte-of, load, send, sent-off}
 use Rattle.tick_machine.specs.Desk.{Desk}
 use Rattle.tick_machine.specs.Machine.{Config, packet, raise, one-more, owner-of}
 use Rattle.tick_machine.specs.Story.{Served, Story, begun, serving, going, accepting, ticking}
-use Rattle.tick_machine.specs.Law.{On, idle, busy, Unsent, sent-on}
-use Rattle.tick_machine.specs.Books.{line-rest, Under-way, Figures-told}
-use Rattle.tick_machine.proofs.Lists.{head, all-map, total-insert, total-insert-all, only-yes, only-no}
+use Rattle.tick_machine.specs.Law.{On, idle, busy, Unsent, served-of, sent-on, sent-of}
+use Rattle.tick_machine.specs.Books.{accepted-of, line-rest, unsent-of, Under-way, Figures-told, Figures-add-up}
+use Rattle.tick_machine.proofs.Lists.{head, all-map, total-insert, total-insert-all, only-yes, only-no, only-at-most}
 use Rattle.tick_machine.proofs.Windows.{owner-there}
 use Rattle.tick_machine.proofs.Slots.{Fresh}
 use Rattle.tick_machine.proofs.Work.{line, unsent-map}
 use Rattle.tick_machine.proofs.Serving.{own, serve-next, got-own}
 use Rattle.tick_machine.proofs.Good.{Sane, Good, desked, sizes-some}
 
+-- the figures are what happened, and add up
+pub record Told (c : Config) (y : Story) : Type 0 where
+  pub accepted-many : length (y .machine .bytes .accepted) ≡ length (c .weights)
+  pub sent-many : length (y .machine .bytes .sent) ≡ length (c .weights)
+  pub served-many : length (y .machine .bytes .served) ≡ length (c .weights)
+  pub next-many : length (y .machine .round .next) ≡ length (c .weights)
+  pub accepted : (i : ℕ) → getD (y .machine .bytes .accepted) i 0 ≡ accepted-of i y
+  pub sent : (i : ℕ) → getD (y .machine .bytes .sent) i 0 ≡ sent-of i y
+  pub served : (i : ℕ) → getD (y .machine .bytes .served) i 0 ≡ served-of (c .weights) i y
+  pub served-or-owed : (i : ℕ) → accepted-of i y ≡ served-of (c .weights) i y + owed-to (c .weights) i (y .machine .round)
+  pub sent-or-unsent : (i : ℕ) → accepted-of i y ≡ sent-of i y + unsent-of i (y .machine .sender)
+  pub sent-small : (i : ℕ) → getD (y .machine .bytes .sent) i 0 ≤ y .machine .clock
+  pub served-small : (i : ℕ) → getD (y .machine .bytes .served) i 0 ≤ y .machine .clock
+
+pub figures-told : (c : Config) (y : Story) → Told c y → Figures-told c y
+figures-told c y f = record { accepted = f .accepted; sent = f .sent; served = f .served }
+
+pub figures-add-up : (c : Config) (y : Story) → Told c y → Figures-add-up c (y .machine)
+figures-add-up c y f = record {
+  accepted-many = f .accepted-many;
+  sent-many = f .sent-many;
+  served-many = f .served-many;
+  next-many = f .next-many;
+  served-or-owed = λ i. omega (arith, f .accepted i, f .served i, f .served-or-owed i);
+  sent-or-unsent = λ i. omega (arith, f .accepted i, f .sent i, f .sent-or-unsent i);
+}
+
 -- what is added at the place j
 abbrev at-place : ℕ → Option ℕ → ℕ
 at-place j None = 0
 at-place j (Some i) = only (eqb i j) 1
+
+at-place-small : (j : ℕ) (o : Option ℕ) → at-place j o ≤ 1
+at-place-small j None = omega arith
+at-place-small j (Some i) = only-at-most (eqb i j) 1
 
 -- the place is there
 abbrev In-range : Option ℕ → ℕ → Type 0
@@ -131,7 +162,7 @@ byte-in-range n clock (sending p started m) ws h k = line h
 pub sessions : {c : Config} {y : Story} → 1 ≤ round-length (c .weights) → Good c y → Unsent (λ p. p .session < length (c .weights)) (y .machine .sender)
 sessions {c} {y} h g = unsent-map (g .sane) (λ p k. subst (λ i. i < length (c .weights)) (k .mine) (owner-there (c .weights) (p .stamp) h))
 
-pub tick-figures : (c : Config) (y : Story) → 1 ≤ round-length (c .weights) → Good c y → Figures-told c y → Figures-told c (ticking c y)
+pub tick-figures : (c : Config) (y : Story) → 1 ≤ round-length (c .weights) → Good c y → Told c y → Told c (ticking c y)
 tick-figures c y h g f =
     let m = y .machine in
     let l = m .sender .line in
@@ -153,12 +184,14 @@ tick-figures c y h g f =
       sent = λ i. omega (arith, one-more-at sent-byte (m .bytes .sent) i sent-range, send-sent i (m .clock) l ws (y .gone) (g .under-way) (sizes-some g), f .sent i);
       served = λ i. omega (arith, one-more-at served-byte (m .bytes .served) i served-range, serve-counted (c .weights) i (m .clock + 1) os (y .served), f .served i);
       served-or-owed = λ i. omega (arith, serve-counted (c .weights) i (m .clock + 1) os (y .served), serve-owed (c .weights) i os (m .round), f .served-or-owed i);
+      sent-small = λ i. omega (arith, one-more-at sent-byte (m .bytes .sent) i sent-range, at-place-small i sent-byte, f .sent-small i);
+      served-small = λ i. omega (arith, one-more-at served-byte (m .bytes .served) i served-range, at-place-small i served-byte, f .served-small i);
       sent-or-unsent = λ i. omega (arith, send-sent i (m .clock) l ws (y .gone) (g .under-way) (sizes-some g), send-rest i (m .clock) l ws (g .under-way) (sizes-some g), f .sent-or-unsent i);
     }
 
 pub accept-figures : (c : Config) (y : Story) (i n tag : ℕ) → i < length (c .weights)
     → Fresh (c .weights) i n (max (y .machine .round .cursor) (getD (y .machine .round .next) i 0)) (granted (c .weights) i n (y .machine .round))
-    → Figures-told c y → Figures-told c (accepting c i n tag y)
+    → Told c y → Told c (accepting c i n tag y)
 accept-figures c y i n tag l new f =
     let m = y .machine in
     let got = granted (c .weights) i n (m .round) in
@@ -179,9 +212,11 @@ accept-figures c y i n tag l new f =
       sent-or-unsent = λ j.
           let more-waiting = total-insert (λ p. p .stamp) (λ p. only (eqb (p .session) j) (p .size)) it (m .sender .waiting) in
           omega (arith, f .sent-or-unsent j);
+      sent-small = f .sent-small;
+      served-small = f .served-small;
     }
 
-pub desk-figures : (c : Config) (d : Desk → Desk) (y : Story) → Figures-told c y → Figures-told c (desked d y)
+pub desk-figures : (c : Config) (d : Desk → Desk) (y : Story) → Told c y → Told c (desked d y)
 desk-figures c d y f = record {
   accepted-many = f .accepted-many;
   sent-many = f .sent-many;
@@ -192,11 +227,13 @@ desk-figures c d y f = record {
   served = f .served;
   served-or-owed = f .served-or-owed;
   sent-or-unsent = f .sent-or-unsent;
+  sent-small = f .sent-small;
+  served-small = f .served-small;
 }
 
-pub begun-figures : (c : Config) → Figures-told c (begun c)
+pub begun-figures : (c : Config) → Told c (begun c)
 begun-figures c =
-    let many = length-replicate (length (c .weights)) 0 in
+    let many : length (replicate (length (c .weights)) (zero)) ≡ length (c .weights) = length-replicate (length (c .weights)) zero in
     record {
       accepted-many = many;
       sent-many = many;
@@ -207,4 +244,6 @@ begun-figures c =
       served = getD-zeros (length (c .weights));
       served-or-owed = λ i. refl;
       sent-or-unsent = λ i. refl;
+      sent-small = λ i. omega (arith, getD-zeros (length (c .weights)) i);
+      served-small = λ i. omega (arith, getD-zeros (length (c .weights)) i);
     }

@@ -16,7 +16,7 @@ use Rattle.tick_machine.specs.Slots.{round-length}
 use Rattle.tick_machine.specs.Machine.{Config}
 use Rattle.tick_machine.specs.Life.{within, made, adding, with-session, added, drafted}
 use Rattle.tick_machine.specs.Law.{Drafted}
-use Rattle.tick_machine.specs.Fit.{Fit}
+use Rattle.tick_machine.specs.Fit.{Fit, Drafts-keep-the-limits}
 use Rattle.tick_machine.proofs.Lists.{all-push}
 use Rattle.tick_machine.proofs.Places.{total-push}
 
@@ -92,5 +92,5 @@ draft-fits : (c : Config) (addings : List ℕ) → Fit c → Fit (drafted c addi
 draft-fits c [] f = f
 draft-fits c (w ∷ ws) f = draft-fits (added c w) ws (added-fits c w f)
 
-pub drafted-fits : (c : Config) → Drafted c → Fit c
+pub drafted-fits : Drafts-keep-the-limits
 drafted-fits c d = subst Fit (d .is) (draft-fits (d .first) (d .addings) (made-fits (d .link) (d .largest) (d .capacity) (d .weight) (d .first) (d .making)))

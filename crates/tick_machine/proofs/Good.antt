@@ -58,9 +58,9 @@ abbrev pub Stage : Config → Story → Packet → Type 0
 Stage c y p = Open c y p ⊎ Closed c y p
 
 pub record Good (c : Config) (y : Story) : Type 0 where
-  pub shown : Owed-by-next c y
+  pub shown : Owed-by-next c (y .machine)
   pub many : length (y .machine .round .next) ≡ length (c .weights)
-  pub work : Same-work c y
+  pub work : Same-work c (y .machine)
   pub past : All (λ (b : Served). b .slot < y .machine .round .cursor) (y .served)
   pub under-way : Under-way (y .machine .sender .line)
   pub order : Rising (λ p. p .stamp) (y .machine .sender .waiting)

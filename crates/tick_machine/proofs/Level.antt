@@ -13,11 +13,12 @@ use Rattle.tick_machine.specs.Sender.{Packet, Line, free, sending, Sender}
 use Rattle.tick_machine.specs.Machine.{Config}
 use Rattle.tick_machine.specs.Story.{Story}
 use Rattle.tick_machine.specs.Law.{On, Unsent, Level}
-use Rattle.tick_machine.specs.Books.{line-bytes, line-rest, Under-way, Figures-told}
+use Rattle.tick_machine.specs.Books.{line-bytes, line-rest, Under-way}
 use Rattle.tick_machine.proofs.Lists.{all-map, all-zip, only-no, only-at-most}
 use Rattle.tick_machine.proofs.Known.{times}
 use Rattle.tick_machine.proofs.Work.{line, due, pending, live}
 use Rattle.tick_machine.proofs.Serving.{own, own-above}
+use Rattle.tick_machine.proofs.Figures.{Told}
 use Rattle.tick_machine.proofs.Good.{First, later, Sane, Open, Closed, Stage, Good, sizes-some}
 
 abbrev bytes-of : ℕ → List Packet → ℕ
@@ -95,7 +96,7 @@ module _ (c : Config) (y : Story) (g : Good c y) (i : ℕ) where
       (first-of Three i ws (g .order) three)
 
 -- what was accepted is served or owed, and sent or unsent: so the lead of the round server is what is unsent beyond what is owed
-pub stays-level : (c : Config) (y : Story) → Good c y → Figures-told c y → Level c y
+pub stays-level : (c : Config) (y : Story) → Good c y → Told c y → Level c y
 stays-level c y g f pos i =
     let l = y .machine .sender .line in
     let w = waiting-level c y g i in

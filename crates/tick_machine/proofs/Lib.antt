@@ -17,3 +17,4 @@ pub mod Places
 pub mod Fits
 pub mod Histories
 pub mod Small
+pub mod Stands

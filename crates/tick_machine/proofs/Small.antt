@@ -4,6 +4,7 @@ use mathlib.Core.List.{List, [], _∷_}
 use mathlib.Core.Bool.{Bool, true, false}
 use Prim.Native.Nat.{ℕ, zero, suc, _+_, _-_, _*_, _≤_, _<_}
 use native.Mathlib.Omega.{arith}
+use native.Mathlib.Nat.{mul-le-mul-left, mul-le-mul-right}
 use lib.Dec.{eqb, ltb}
 use lib.ListN.{length, getD}
 use Rattle.std.proofs.shelf.Ways.{tells}
@@ -12,35 +13,35 @@ use Rattle.tick_machine.specs.Lists.{total, only, All, none, more, insert}
 use Rattle.tick_machine.specs.Slots.{round-length, owner}
 use Rattle.tick_machine.specs.Sender.{Packet, Departed, Line, free, sending, Sender, send, sent-off}
 use Rattle.tick_machine.specs.Desk.{Desk, among, hand-out, file, return, without}
-use Rattle.tick_machine.specs.Machine.{Config, Machine, packet}
+use Rattle.tick_machine.specs.Machine.{Config, Machine, opened, packet, accept, tick, with-desk}
 use Rattle.tick_machine.specs.Life.{last-tick, on-line, unsettled}
-use Rattle.tick_machine.specs.Story.{Story, begun, accepting, ticking}
+use Rattle.tick_machine.specs.Story.{Story}
 use Rattle.tick_machine.specs.Law.{On, idle, busy, Unsent}
 use Rattle.tick_machine.specs.Fit.{Fit}
-use Rattle.tick_machine.specs.Books.{line-bytes, waiting-bytes, over, over-line, holds, Under-way, Proper, Held-once, Totals-add-up, Stays-small}
+use Rattle.tick_machine.specs.Books.{line-bytes, waiting-bytes, over, over-line, holds, Under-way, Proper, Well-kept, Totals-add-up, Stays-small}
 use Rattle.tick_machine.proofs.Lists.{head, tail, all-map, all-zip, length-insert, only-yes, only-no, total-each}
 use Rattle.tick_machine.proofs.Windows.{round-some}
 use Rattle.tick_machine.proofs.Work.{line, on-zip, unsent-map, unsent-zip, send-waiting}
-use Rattle.tick_machine.proofs.Good.{Sane, Good, tidy, desked}
-use Rattle.tick_machine.proofs.Figures.{sessions}
-use Rattle.tick_machine.proofs.Bound.{next-near, tick-near}
+use Rattle.tick_machine.proofs.Good.{Sane, Good, tidy}
+use Rattle.tick_machine.proofs.Figures.{Told, sessions}
+use Rattle.tick_machine.proofs.Bound.{own-within, next-near, tick-near}
 use Rattle.tick_machine.proofs.Places.{unsettled-over, tick-over, accept-over, collect-over, without-total, without-length, joined-length, handed-length}
 use Rattle.tick_machine.proofs.Histories.{Admitted}
 
 pub fit-round : {c : Config} → Fit c → 1 ≤ round-length (c .weights)
 fit-round {c} f = round-some (c .weights) 0 (f .weights) (f .sessions-some)
 
-pub record Placed (c : Config) (y : Story) : Type 0 where
-  pub adds-up : over (λ x. 1) (y .machine) + y .machine .desk .filed + y .machine .desk .returned ≡ y .machine .count
-  pub once : (k : ℕ) → holds k (y .machine) ≤ only (ltb k (y .machine .count)) 1
-  pub few : over (λ x. 1) (y .machine) ≤ 1024
-  pub room : length (y .machine .sender .waiting) ≤ c .capacity
-  pub done : length (y .machine .desk .left) + length (y .machine .desk .out) + y .machine .desk .filed + y .machine .desk .returned ≤ y .machine .clock
-  pub clock : y .machine .clock ≤ last-tick
-  pub cursor : y .machine .round .cursor ≤ y .machine .clock * round-length (c .weights)
+pub record Placed (c : Config) (m : Machine) : Type 0 where
+  pub adds-up : over (λ x. 1) m + m .desk .filed + m .desk .returned ≡ m .count
+  pub once : (k : ℕ) → holds k m ≤ only (ltb k (m .count)) 1
+  pub few : over (λ x. 1) m ≤ 1024
+  pub room : length (m .sender .waiting) ≤ c .capacity
+  pub done : length (m .desk .left) + length (m .desk .out) + m .desk .filed + m .desk .returned ≤ m .clock
+  pub clock : m .clock ≤ last-tick
+  pub cursor : m .round .cursor ≤ m .clock * round-length (c .weights)
 
-pub begun-placed : (c : Config) → Placed c (begun c)
-begun-placed c = record {
+pub opened-placed : (c : Config) → Placed c (opened c)
+opened-placed c = record {
   adds-up = refl;
   once = λ k. omega arith;
   few = omega arith;
@@ -50,7 +51,7 @@ begun-placed c = record {
   cursor = omega arith;
 }
 
-pub tick-placed : (c : Config) (y : Story) → Fit c → Good c y → y .machine .clock < last-tick → Placed c y → Placed c (ticking c y)
+pub tick-placed : (c : Config) (y : Story) → Fit c → Good c y → y .machine .clock < last-tick → Placed c (y .machine) → Placed c (tick c (y .machine))
 tick-placed c y f g l h =
     let m = y .machine in
     let s = m .sender in
@@ -67,9 +68,8 @@ tick-placed c y f g l h =
       cursor = omega (arith, h .cursor);
     }
 
-pub accept-placed : (c : Config) (y : Story) (i n tag : ℕ) → Admitted c i n (y .machine) → Placed c y → Placed c (accepting c i n tag y)
-accept-placed c y i n tag a h =
-    let m = y .machine in
+pub accept-placed : (c : Config) (m : Machine) (i n tag : ℕ) → Admitted c i n m → Placed c m → Placed c (accept c i n tag m)
+accept-placed c m i n tag a h =
     let more-over = accept-over (λ x. 1) c i n tag m in
     record {
       adds-up = omega (arith, h .adds-up);
@@ -85,9 +85,8 @@ accept-placed c y i n tag a h =
       cursor = h .cursor;
     }
 
-pub collect-placed : (c : Config) (y : Story) → Placed c y → Placed c (desked hand-out y)
-collect-placed c y h =
-    let m = y .machine in
+pub collect-placed : (c : Config) (m : Machine) → Placed c m → Placed c (with-desk hand-out m)
+collect-placed c m h =
     record {
       adds-up = omega (arith, collect-over (λ x. 1) m, h .adds-up);
       once = λ k. omega (arith, collect-over (λ x. only (eqb x k) 1) m, h .once k);
@@ -98,9 +97,8 @@ collect-placed c y h =
       cursor = h .cursor;
     }
 
-pub file-placed : (c : Config) (y : Story) (number : ℕ) → among number (y .machine .desk .out) ≡ true → Placed c y → Placed c (desked (file number) y)
-file-placed c y number o h =
-    let m = y .machine in
+pub file-placed : (c : Config) (m : Machine) (number : ℕ) → among number (m .desk .out) ≡ true → Placed c m → Placed c (with-desk (file number) m)
+file-placed c m number o h =
     record {
       adds-up = omega (arith, without-total (λ x. 1) number (m .desk .out) o, h .adds-up);
       once = λ k. omega (arith, without-total (λ x. only (eqb x k) 1) number (m .desk .out) o, h .once k);
@@ -111,9 +109,8 @@ file-placed c y number o h =
       cursor = h .cursor;
     }
 
-pub return-placed : (c : Config) (y : Story) (number : ℕ) → among number (y .machine .desk .out) ≡ true → Placed c y → Placed c (desked (return number) y)
-return-placed c y number o h =
-    let m = y .machine in
+pub return-placed : (c : Config) (m : Machine) (number : ℕ) → among number (m .desk .out) ≡ true → Placed c m → Placed c (with-desk (return number) m)
+return-placed c m number o h =
     record {
       adds-up = omega (arith, without-total (λ x. 1) number (m .desk .out) o, h .adds-up);
       once = λ k. omega (arith, without-total (λ x. only (eqb x k) 1) number (m .desk .out) o, h .once k);
@@ -126,8 +123,8 @@ return-placed c y number o h =
 
 -- and what follows from it
 
-pub totals-add-up : (c : Config) (y : Story) → Placed c y → Totals-add-up c y
-totals-add-up c y h = omega (arith, h .adds-up, unsettled-over (y .machine))
+pub totals-add-up : (c : Config) (m : Machine) → Placed c m → Totals-add-up c m
+totals-add-up c m h = omega (arith, h .adds-up, unsettled-over m)
 
 -- a number that is held was given
 held-given : (k n h : ℕ) → 1 ≤ h → h ≤ only (ltb k n) 1 → k < n
@@ -142,8 +139,8 @@ held-waiting ws =
     all-map (total-each (λ (p q : Packet). only (eqb (q .number) (p .number)) 1) ws)
     (λ p l. omega (arith, only-yes (eqb (p .number) (p .number)) 1 (eq-eqb (p .number) (p .number) refl)))
 
-pub held-once : (c : Config) (y : Story) → Fit c → Good c y → Placed c y → Held-once c y
-held-once c y f g h =
+pub well-kept : (c : Config) (y : Story) → Fit c → Good c y → Placed c (y .machine) → Well-kept c (y .machine)
+well-kept c y f g h =
     let m = y .machine in
     let s = m .sender in
     let given : Unsent (λ p. p .number < m .count) s
@@ -155,6 +152,7 @@ held-once c y f g h =
     = unsent-zip given (sessions (fit-round f) g) (λ p n l. (n, l)) in
     record {
       once = h .once;
+      rising = g .order;
       under-way = g .under-way;
       proper = unsent-zip known (g .sane) (λ p n k. record {
         session = n .1;
@@ -173,19 +171,33 @@ line-small : (l : Line) → Under-way l → On (λ p. p .size ≤ 65535) l → l
 line-small free b h = omega arith
 line-small (sending p started n) b h = omega (arith, line h)
 
-pub stays-small : (c : Config) (y : Story) → Fit c → Good c y → Placed c y → Stays-small c y
-stays-small c y f g h =
+mul-within : (a b x y : ℕ) → a ≤ b → x ≤ y → a * x ≤ b * y
+mul-within a b x y h k = omega (arith, mul-le-mul-right x h, mul-le-mul-left b k)
+
+pub stays-small : (c : Config) (y : Story) → Fit c → Good c y → Told c y → Placed c (y .machine) → Stays-small c (y .machine)
+stays-small c y f g t h =
     let m = y .machine in
     let s = m .sender in
     let short : Unsent (λ p. p .size ≤ 65535) s = unsent-map (g .sane) (λ p k. omega (arith, k .short, g .small, f .largest)) in
     let at-most = unsettled-over m in
+    let owed : length (m .round .owed) ≤ 67107840
+    = omega (arith, g .work, waiting-small (s .waiting) (short .waits), line-small (s .line) (g .under-way) (short .on), h .few) in
+    let next = next-near (c .weights) (m .round) (tidy g) (f .weights) (g .many) in
+    let Φ = round-length (c .weights) in
+    let limit : m .round .cursor ≤ 72057594037927936
+    = omega (arith, h .cursor, mul-within (m .clock) last-tick Φ 4096 (h .clock) (f .round)) in
     record {
       clock = h .clock;
       cursor = h .cursor;
-      owed = omega (arith, g .work, waiting-small (s .waiting) (short .waits), line-small (s .line) (g .under-way) (short .on), h .few);
-      next = next-near (c .weights) (m .round) (tidy g) (f .weights) (g .many);
+      owed = owed;
+      next = next;
       stamps = unsent-map (g .sane) (λ p k. subst (λ i. p .stamp < getD (m .round .next) i 0) (k .mine) (k .known));
       waiting = h .room;
       unsettled = omega (arith, h .few);
       count = omega (arith, h .adds-up, h .few, h .done);
+      accepted = λ i. omega (arith, t .accepted i, t .served i, t .served-or-owed i, t .served-small i, own-within (c .weights) i (m .round .owed));
+      sent = t .sent-small;
+      served = t .served-small;
+      cursor-limit = limit;
+      next-limit = λ i. omega (arith, next i, mul-within (length (m .round .owed) + 1) 67107841 Φ 4096 (omega arith) (f .round));
     }

@@ -1,25 +1,25 @@
 -- An accepted packet keeps what the law's induction keeps. Assumes nothing.
-use mathlib.Core.Path.{_≡_, refl, sym, ap, subst, _∙_}
+use mathlib.Core.Path.{_≡_, refl, sym, subst, _∙_}
 use mathlib.Core.List.{List, [], _∷_}
 use mathlib.Core.Logic.{_⊎_, inl, inr, ⊎-elim}
 use Prim.Native.Nat.{ℕ, _+_, _-_, _≤_, _<_, max}
 use native.Mathlib.Omega.{arith}
 use lib.Dec.{ltb, leb, eqb}
-use lib.ListN.{length, getD, set, length-set}
+use lib.ListN.{length, getD, length-set}
 use Rattle.std.proofs.shelf.Ways.{tells}
 use Rattle.std.proofs.shelf.Tests.{lt-leb}
-use Rattle.tick_machine.specs.Lists.{total, only, All, none, more, Rising, insert, final}
+use Rattle.tick_machine.specs.Lists.{only, All, more, final}
 use Rattle.tick_machine.specs.Slots.{owner}
-use Rattle.tick_machine.specs.Round.{Round, granted}
-use Rattle.tick_machine.specs.Sender.{Packet, Departed, Line, Sender}
+use Rattle.tick_machine.specs.Round.{granted}
+use Rattle.tick_machine.specs.Sender.{Packet}
 use Rattle.tick_machine.specs.Machine.{Config, packet}
 use Rattle.tick_machine.specs.Story.{Served, Story, accepting}
-use Rattle.tick_machine.specs.Law.{On, Unsent, Ever}
-use Rattle.tick_machine.proofs.Lists.{all-map, all-zip, all-insert, rising-insert, total-insert, total-insert-all, length-insert-all, only-no, only-at-most, only-mono}
+use Rattle.tick_machine.specs.Law.{Unsent}
+use Rattle.tick_machine.proofs.Lists.{all-map, all-insert, rising-insert, total-insert, total-insert-all, length-insert-all, only-no, only-at-most, only-mono}
 use Rattle.tick_machine.proofs.Slots.{Fresh}
-use Rattle.tick_machine.proofs.Known.{Known, known-apart, known-more, known-new}
+use Rattle.tick_machine.proofs.Known.{known-apart, known-more, known-new}
 use Rattle.tick_machine.proofs.OwedSlots.{add-shown}
-use Rattle.tick_machine.proofs.Work.{on-zip, pending-of, unsent-map, unsent-zip, unsent-insert}
+use Rattle.tick_machine.proofs.Work.{on-zip, unsent-map, unsent-zip, unsent-insert}
 use Rattle.tick_machine.proofs.Serving.{upto, upto-all, got-own, got-above}
 use Rattle.tick_machine.proofs.Good.{later, Backlog, Sane, Open, Closed, Stage, Good}
 

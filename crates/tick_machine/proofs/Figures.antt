@@ -5,27 +5,27 @@ use mathlib.Core.Logic.{⊎-elim}
 use Prim.Native.Nat.{ℕ, zero, suc, _+_, _-_, _≤_, _<_, max}
 use native.Mathlib.Omega.{arith}
 use lib.Dec.{eqb}
-use lib.ListN.{length, getD, set, replicate, length-set, length-replicate}
+use lib.ListN.{length, getD, replicate, length-set, length-replicate}
 use lib.Seq.{getD-set-same, getD-set-other}
 use Rattle.std.specs.declared.option.Option.{Option}
 use Rattle.std.specs.declared.option.Option.the-variants.{Some, None}
 use Rattle.std.proofs.shelf.Ways.{tells}
 use Rattle.std.proofs.shelf.Tests.{cases-eq, eq-eqb, ne-eqb}
-use Rattle.tick_machine.specs.Lists.{total, only, All, none, more}
+use Rattle.tick_machine.specs.Lists.{total, only, All}
 use Rattle.tick_machine.specs.Slots.{round-length, owner}
 use Rattle.tick_machine.specs.Round.{Round, owed-to, granted, stamp, serve, served-slot}
-use Rattle.tick_machine.specs.Sender.{Packet, Departed, Line, free, sending, Sender, onward, leaving, byte-of, load, send, sent-off}
+use Rattle.tick_machine.specs.Sender.{Packet, Departed, Line, free, sending, onward, leaving, byte-of, load, send, sent-off}
 use Rattle.tick_machine.specs.Desk.{Desk}
 use Rattle.tick_machine.specs.Machine.{Config, packet, raise, one-more, owner-of}
 use Rattle.tick_machine.specs.Story.{Served, Story, begun, serving, going, accepting, ticking}
-use Rattle.tick_machine.specs.Law.{On, idle, busy, Unsent, served-of, sent-on, sent-of}
+use Rattle.tick_machine.specs.Law.{On, Unsent, served-of, sent-on, sent-of}
 use Rattle.tick_machine.specs.Books.{accepted-of, line-rest, unsent-of, Under-way, Figures-told, Figures-add-up}
-use Rattle.tick_machine.proofs.Lists.{head, all-map, total-insert, total-insert-all, only-yes, only-no, only-at-most}
+use Rattle.tick_machine.proofs.Lists.{head, total-insert, total-insert-all, only-yes, only-no, only-at-most}
 use Rattle.tick_machine.proofs.Windows.{owner-there}
 use Rattle.tick_machine.proofs.Slots.{Fresh}
 use Rattle.tick_machine.proofs.Work.{line, unsent-map}
 use Rattle.tick_machine.proofs.Serving.{own, serve-next, got-own}
-use Rattle.tick_machine.proofs.Good.{Sane, Good, desked, sizes-some}
+use Rattle.tick_machine.proofs.Good.{Good, desked, sizes-some}
 
 -- the figures are what happened, and add up
 pub record Told (c : Config) (y : Story) : Type 0 where

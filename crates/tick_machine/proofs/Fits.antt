@@ -1,8 +1,8 @@
 -- Every drafted configuration keeps the limits. Assumes nothing.
-use mathlib.Core.Path.{_≡_, refl, sym, subst}
-use mathlib.Core.List.{List, [], _∷_, _++_}
+use mathlib.Core.Path.{_≡_, refl, subst}
+use mathlib.Core.List.{List, [], _∷_}
 use mathlib.Core.Bool.{Bool, true, false, cond}
-use Prim.Native.Nat.{ℕ, suc, _+_, _≤_}
+use Prim.Native.Nat.{ℕ, _+_, _≤_}
 use native.Mathlib.Omega.{arith}
 use lib.Dec.{ltb, leb}
 use lib.ListN.{length, length-append}
@@ -11,11 +11,10 @@ use Rattle.std.specs.declared.result.Result.the-variants.{Ok, Err}
 use Rattle.std.proofs.shelf.Tests.{and-parts, ltb-true, leb-true}
 use Rattle.tick_machine.specs.declared.refusal.Refusal.{Refusal}
 use Rattle.tick_machine.specs.declared.refusal.Refusal.the-variants.{LinkNumber, Largest, Capacity, FirstWeight, Weight, TooManySessions, TooMuchWeight}
-use Rattle.tick_machine.specs.Lists.{total, All, none, more}
+use Rattle.tick_machine.specs.Lists.{none, more}
 use Rattle.tick_machine.specs.Slots.{round-length}
 use Rattle.tick_machine.specs.Machine.{Config}
 use Rattle.tick_machine.specs.Life.{within, made, adding, with-session, added, drafted}
-use Rattle.tick_machine.specs.Law.{Drafted}
 use Rattle.tick_machine.specs.Fit.{Fit, Drafts-keep-the-limits}
 use Rattle.tick_machine.proofs.Lists.{all-push}
 use Rattle.tick_machine.proofs.Places.{total-push}

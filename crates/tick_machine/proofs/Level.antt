@@ -9,10 +9,10 @@ use Rattle.std.proofs.shelf.Ways.{tells}
 use Rattle.std.proofs.shelf.Tests.{cases-eq, ne-eqb}
 use Rattle.tick_machine.specs.Lists.{total, only, All, more, Rising}
 use Rattle.tick_machine.specs.Slots.{owner}
-use Rattle.tick_machine.specs.Sender.{Packet, Line, free, sending, Sender}
+use Rattle.tick_machine.specs.Sender.{Packet, Line, free, sending}
 use Rattle.tick_machine.specs.Machine.{Config}
 use Rattle.tick_machine.specs.Story.{Story}
-use Rattle.tick_machine.specs.Law.{On, Unsent, Level}
+use Rattle.tick_machine.specs.Law.{On, Level}
 use Rattle.tick_machine.specs.Books.{line-bytes, line-rest, Under-way}
 use Rattle.tick_machine.proofs.Lists.{all-map, all-zip, only-no, only-at-most}
 use Rattle.tick_machine.proofs.Known.{times}

@@ -1,28 +1,28 @@
 -- Numbers held once, totals that add up, and figures that stay small, through every event. Assumes nothing.
-use mathlib.Core.Path.{_≡_, refl, sym, ap, subst, _∙_}
+use mathlib.Core.Path.{_≡_, refl, subst}
 use mathlib.Core.List.{List, [], _∷_}
-use mathlib.Core.Bool.{Bool, true, false}
-use Prim.Native.Nat.{ℕ, zero, suc, _+_, _-_, _*_, _≤_, _<_}
+use mathlib.Core.Bool.{true}
+use Prim.Native.Nat.{ℕ, _+_, _-_, _*_, _≤_, _<_}
 use native.Mathlib.Omega.{arith}
 use native.Mathlib.Nat.{mul-le-mul-left, mul-le-mul-right}
 use lib.Dec.{eqb, ltb}
 use lib.ListN.{length, getD}
 use Rattle.std.proofs.shelf.Ways.{tells}
-use Rattle.std.proofs.shelf.Tests.{eq-eqb, ltb-true, cases-bool}
-use Rattle.tick_machine.specs.Lists.{total, only, All, none, more, insert}
-use Rattle.tick_machine.specs.Slots.{round-length, owner}
-use Rattle.tick_machine.specs.Sender.{Packet, Departed, Line, free, sending, Sender, send, sent-off}
-use Rattle.tick_machine.specs.Desk.{Desk, among, hand-out, file, return, without}
+use Rattle.std.proofs.shelf.Tests.{eq-eqb}
+use Rattle.tick_machine.specs.Lists.{total, only, All}
+use Rattle.tick_machine.specs.Slots.{round-length}
+use Rattle.tick_machine.specs.Sender.{Packet, Line, free, sending, sent-off}
+use Rattle.tick_machine.specs.Desk.{among, hand-out, file, return}
 use Rattle.tick_machine.specs.Machine.{Config, Machine, opened, packet, accept, tick, with-desk}
 use Rattle.tick_machine.specs.Life.{last-tick, on-line, unsettled}
 use Rattle.tick_machine.specs.Story.{Story}
 use Rattle.tick_machine.specs.Law.{On, idle, busy, Unsent}
 use Rattle.tick_machine.specs.Fit.{Fit}
-use Rattle.tick_machine.specs.Books.{line-bytes, waiting-bytes, over, over-line, holds, Under-way, Proper, Well-kept, Totals-add-up, Stays-small}
-use Rattle.tick_machine.proofs.Lists.{head, tail, all-map, all-zip, length-insert, only-yes, only-no, total-each}
+use Rattle.tick_machine.specs.Books.{line-bytes, waiting-bytes, over, over-line, holds, Under-way, Well-kept, Totals-add-up, Stays-small}
+use Rattle.tick_machine.proofs.Lists.{head, tail, all-map, length-insert, only-yes, total-each}
 use Rattle.tick_machine.proofs.Windows.{round-some}
 use Rattle.tick_machine.proofs.Work.{line, on-zip, unsent-map, unsent-zip, send-waiting}
-use Rattle.tick_machine.proofs.Good.{Sane, Good, tidy}
+use Rattle.tick_machine.proofs.Good.{Good, tidy}
 use Rattle.tick_machine.proofs.Figures.{Told, sessions}
 use Rattle.tick_machine.proofs.Bound.{own-within, next-near, tick-near}
 use Rattle.tick_machine.proofs.Places.{unsettled-over, tick-over, accept-over, collect-over, without-total, without-length, joined-length, handed-length}

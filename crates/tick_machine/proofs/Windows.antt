@@ -1,5 +1,5 @@
 -- In any round of slots a session has as many as its weight; so from any slot on it has one within a round. Assumes nothing.
-use mathlib.Core.Path.{_≡_, refl, sym, ap, _∙_}
+use mathlib.Core.Path.{_≡_, sym, ap, _∙_}
 use mathlib.Core.List.{List, [], _∷_}
 use mathlib.Core.Bool.{Bool, true}
 use Prim.Native.Nat.{ℕ, zero, suc, _+_, _*_, _≤_, _<_}
@@ -7,7 +7,6 @@ use native.Mathlib.Omega.{arith}
 use native.Mathlib.Nat.{zero-add, suc-add, add-mod-right, mod-eq-of-lt, mod-lt}
 use lib.Dec.{eqb}
 use lib.ListN.{length, getD}
-use Rattle.std.proofs.shelf.Tests.{eqb-true}
 use Rattle.tick_machine.specs.Lists.{only, count, All}
 use Rattle.tick_machine.specs.Slots.{round-length, holder, owner}
 use Rattle.tick_machine.proofs.Lists.{head, tail}

@@ -1,21 +1,20 @@
 -- What stays true beside the law: the same work, the figures and totals as what happened, numbers held once, and everything small.
 -- Assumes nothing.
 use mathlib.Core.Path.{_≡_}
-use mathlib.Core.List.{List, [], _∷_}
+use mathlib.Core.List.{List}
 use Prim.Native.Nat.{ℕ, _+_, _*_, _≤_, _<_}
 use lib.Dec.{eqb, ltb}
 use lib.ListN.{length, getD}
 use Rattle.tick_machine.specs.declared.call.Call.{Call}
-use Rattle.tick_machine.specs.Lists.{total, only, All, Rising}
+use Rattle.tick_machine.specs.Lists.{total, only, Rising}
 use Rattle.tick_machine.specs.Slots.{round-length}
-use Rattle.tick_machine.specs.Round.{Round, owed-to}
+use Rattle.tick_machine.specs.Round.{owed-to}
 use Rattle.tick_machine.specs.Owed.{shown-round}
 use Rattle.tick_machine.specs.Sender.{Packet, Departed, Line, free, sending, Sender}
-use Rattle.tick_machine.specs.Desk.{Desk}
-use Rattle.tick_machine.specs.Machine.{Config, Bytes, Machine}
+use Rattle.tick_machine.specs.Machine.{Config, Machine}
 use Rattle.tick_machine.specs.Life.{last-tick, on-line, unsettled, events, after}
 use Rattle.tick_machine.specs.Story.{Arrival, Story, story}
-use Rattle.tick_machine.specs.Law.{On, Unsent, served-of, sent-of, In-every-history}
+use Rattle.tick_machine.specs.Law.{Unsent, served-of, sent-of, In-every-history}
 
 -- the machine of the story is the machine of the calls
 abbrev pub The-story-tells-the-calls : Type 0

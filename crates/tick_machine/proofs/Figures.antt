@@ -95,7 +95,7 @@ getD-zeros (suc n) (suc j) = getD-zeros n j
 abbrev gone-of : ℕ → List Departed → ℕ
 gone-of j gone = total (λ (d : Departed). only (eqb (d .packet .session) j) (d .packet .size)) gone
 
-abbrev bytes-of : ℕ → List Packet → ℕ
+abbrev pub bytes-of : ℕ → List Packet → ℕ
 bytes-of j ws = total (λ p. only (eqb (p .session) j) (p .size)) ws
 
 onward-sent : (j tick started n : ℕ) (p : Packet) (gone : List Departed)
@@ -181,12 +181,17 @@ tick-figures c y h g f =
       served-many = one-more-length served-byte (m .bytes .served) ∙ f .served-many;
       next-many = ap length (sym (serve-next os (m .round))) ∙ f .next-many;
       accepted = f .accepted;
-      sent = λ i. omega (arith, one-more-at sent-byte (m .bytes .sent) i sent-range, send-sent i (m .clock) l ws (y .gone) (g .under-way) (sizes-some g), f .sent i);
-      served = λ i. omega (arith, one-more-at served-byte (m .bytes .served) i served-range, serve-counted (c .weights) i (m .clock + 1) os (y .served), f .served i);
-      served-or-owed = λ i. omega (arith, serve-counted (c .weights) i (m .clock + 1) os (y .served), serve-owed (c .weights) i os (m .round), f .served-or-owed i);
+      sent = λ i.
+          omega (arith, one-more-at sent-byte (m .bytes .sent) i sent-range, send-sent i (m .clock) l ws (y .gone) (g .under-way) (sizes-some g), f .sent i);
+      served = λ i.
+          omega (arith, one-more-at served-byte (m .bytes .served) i served-range, serve-counted (c .weights) i (m .clock + 1) os (y .served), f .served i);
+      served-or-owed = λ i.
+          omega (arith, serve-counted (c .weights) i (m .clock + 1) os (y .served), serve-owed (c .weights) i os (m .round), f .served-or-owed i);
       sent-small = λ i. omega (arith, one-more-at sent-byte (m .bytes .sent) i sent-range, at-place-small i sent-byte, f .sent-small i);
       served-small = λ i. omega (arith, one-more-at served-byte (m .bytes .served) i served-range, at-place-small i served-byte, f .served-small i);
-      sent-or-unsent = λ i. omega (arith, send-sent i (m .clock) l ws (y .gone) (g .under-way) (sizes-some g), send-rest i (m .clock) l ws (g .under-way) (sizes-some g), f .sent-or-unsent i);
+      sent-or-unsent = λ i.
+          let sent = send-sent i (m .clock) l ws (y .gone) (g .under-way) (sizes-some g) in
+          omega (arith, sent, send-rest i (m .clock) l ws (g .under-way) (sizes-some g), f .sent-or-unsent i);
     }
 
 pub accept-figures : (c : Config) (y : Story) (i n tag : ℕ) → i < length (c .weights)

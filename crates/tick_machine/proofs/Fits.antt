@@ -32,9 +32,12 @@ within-parts n x h =
 made-fits : (link largest capacity weight : ℕ) (c : Config) → made link largest capacity weight ≡ Ok c → Fit c
 made-fits link largest capacity weight c h =
     let new : Config = record { link = link; largest = largest; capacity = capacity; weights = weight ∷ [] } in
-    let one = passed (leb link 65535) (cond (within 65535 largest) (cond (within 1024 capacity) (cond (within 4096 weight) (Ok new) (Err FirstWeight)) (Err Capacity)) (Err Largest)) LinkNumber c h in
-    let two = passed (within 65535 largest) (cond (within 1024 capacity) (cond (within 4096 weight) (Ok new) (Err FirstWeight)) (Err Capacity)) Largest c (one .1) in
-    let three = passed (within 1024 capacity) (cond (within 4096 weight) (Ok new) (Err FirstWeight)) Capacity c (two .1) in
+    let at-weight : Result Config Refusal = cond (within 4096 weight) (Ok new) (Err FirstWeight) in
+    let at-capacity : Result Config Refusal = cond (within 1024 capacity) at-weight (Err Capacity) in
+    let at-largest : Result Config Refusal = cond (within 65535 largest) at-capacity (Err Largest) in
+    let one = passed (leb link 65535) at-largest LinkNumber c h in
+    let two = passed (within 65535 largest) at-capacity Largest c (one .1) in
+    let three = passed (within 1024 capacity) at-weight Capacity c (two .1) in
     let four = passed (within 4096 weight) (Ok new) FirstWeight c (three .1) in
     let ok : Ok new ≡ Ok c = four .1 in
     let is : new ≡ c = cc in

@@ -16,5 +16,6 @@ pub mod Bound
 pub mod Places
 pub mod Fits
 pub mod Histories
+pub mod Placed
 pub mod Small
 pub mod Stands

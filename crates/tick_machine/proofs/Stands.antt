@@ -19,7 +19,8 @@ use Rattle.tick_machine.proofs.Accept.{accept-good}
 use Rattle.tick_machine.proofs.Figures.{Told, begun-figures, tick-figures, accept-figures, desk-figures, figures-told, figures-add-up}
 use Rattle.tick_machine.proofs.Level.{stays-level}
 use Rattle.tick_machine.proofs.Bound.{accept-bounded}
-use Rattle.tick_machine.proofs.Small.{fit-round, Placed, opened-placed, tick-placed, accept-placed, collect-placed, file-placed, return-placed, totals-add-up, well-kept, stays-small}
+use Rattle.tick_machine.proofs.Placed.{fit-round, Placed, opened-placed, tick-placed, accept-placed, collect-placed, file-placed, return-placed}
+use Rattle.tick_machine.proofs.Small.{totals-add-up, well-kept, stays-small}
 use Rattle.tick_machine.proofs.Histories.{Allowed, All-allowed, story-tells, in-every-history}
 
 pub record Stands (c : Config) (y : Story) : Type 0 where

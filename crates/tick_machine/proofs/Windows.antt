@@ -65,5 +65,6 @@ module _ (ws : List ℕ) (i : ℕ) (l : i < length ws) where
       omega (arith, ap (count f) e, a-round (a + k * n), rounds a k)
 
 -- from any slot on, a session has one within a round
-pub reach : (ws : List ℕ) (i q : ℕ) → All (λ w. 1 ≤ w) ws → i < length ws → (s : ℕ) × (q ≤ s) × (s < q + round-length ws) × (eqb (owner ws s) i ≡ true)
+pub reach : (ws : List ℕ) (i q : ℕ) → All (λ w. 1 ≤ w) ws → i < length ws
+    → (s : ℕ) × (q ≤ s) × (s < q + round-length ws) × (eqb (owner ws s) i ≡ true)
 reach ws i q h l = count-hit (λ s. eqb (owner ws s) i) q (round-length ws) (omega (arith, a-round ws i l q, weight-some ws i h l))

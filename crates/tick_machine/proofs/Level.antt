@@ -7,7 +7,7 @@ use native.Mathlib.Omega.{arith}
 use lib.Dec.{eqb}
 use Rattle.std.proofs.shelf.Ways.{tells}
 use Rattle.std.proofs.shelf.Tests.{cases-eq, ne-eqb}
-use Rattle.tick_machine.specs.Lists.{ All, more, Rising}
+use Rattle.tick_machine.specs.Lists.{All, more, Rising}
 use Rattle.tick_machine.specs.Slots.{owner}
 use Rattle.tick_machine.specs.Sender.{Packet, Line, free, sending}
 use Rattle.tick_machine.specs.Machine.{Config}

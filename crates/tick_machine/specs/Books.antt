@@ -20,7 +20,7 @@ use Rattle.tick_machine.specs.Law.{Unsent, served-of, sent-of, In-every-histor
 abbrev pub The-story-tells-the-calls : Type 0
 The-story-tells-the-calls = (c : Config) (calls : List Call) → story c (events c calls) .machine ≡ after c calls
 
--- the bytes left on the line, and all bytes that are unsent
+-- the bytes left on the line, and the bytes of the waiting packets
 abbrev pub line-bytes : Line → ℕ
 line-bytes free = 0
 line-bytes (sending p started n) = n
@@ -114,7 +114,7 @@ pub record Stays-small (c : Config) (m : Machine) : Type 0 where
   pub accepted : (i : ℕ) → getD (m .bytes .accepted) i 0 ≤ m .clock + 67107840
   pub sent : (i : ℕ) → getD (m .bytes .sent) i 0 ≤ m .clock
   pub served : (i : ℕ) → getD (m .bytes .served) i 0 ≤ m .clock
-  -- so no slot comes near 2 to the 57th
+  -- so every slot that a session ever got is below 2 to the 57th
   pub cursor-limit : m .round .cursor ≤ 72057594037927936
   pub next-limit : (i : ℕ) → getD (m .round .next) i 0 < 144115188075855872
 

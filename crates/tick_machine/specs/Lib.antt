@@ -9,3 +9,6 @@ pub mod Life
 pub mod Values
 pub mod Story
 pub mod Law
+pub mod Cases
+pub mod WrongRules
+pub mod Sharp

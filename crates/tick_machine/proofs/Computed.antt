@@ -62,16 +62,6 @@ left-at-its-latest : In-some-history Left-at-its-latest
 unfolding holder
 left-at-its-latest = record { config = even-link; drafted = even-link-is-real; calls = just-missed; holds = here refl }
 
--- session 1 owns the last slot of the round
-latest-tick-as-late-as-can-be : In-some-history Latest-tick-as-late-as-can-be
-unfolding holder
-latest-tick-as-late-as-can-be = record {
-  config = even-link;
-  drafted = even-link-is-real;
-  calls = Arrive 1 3 1 ∷ [];
-  holds = here {x = record { packet = record { number = 0; session = 1; size = 3; tag = 1; stamp = 5; latest = 8 }; at = 0; owed = 3 }} {xs = []} refl;
-}
-
 -- weights 2, 1 and 1, packets of at most 3 bytes
 abbrev three-link : Config
 three-link = record { link = 2; largest = 3; capacity = 4; weights = 2 ∷ 1 ∷ 1 ∷ [] }
@@ -96,6 +86,19 @@ behind-by-all-but-one = record {
   drafted = three-link-is-real;
   calls = MoveTo 2 ∷ Arrive 2 1 3 ∷ Arrive 1 1 2 ∷ Arrive 0 3 1 ∷ [];
   holds = (lit≤ tt, (0, refl));
+}
+
+-- session 0, one of whose two slots of this round is served and the other owed, gets a slot of the next round
+latest-tick-as-late-as-can-be : In-some-history Latest-tick-as-late-as-can-be
+unfolding holder
+latest-tick-as-late-as-can-be = record {
+  config = three-link;
+  drafted = three-link-is-real;
+  calls = Arrive 0 1 2 ∷ MoveTo 1 ∷ Arrive 0 2 1 ∷ [];
+  holds = here
+    {x = record { packet = record { number = 1; session = 0; size = 1; tag = 2; stamp = 4; latest = 7 }; at = 1; owed = 2 }}
+    {xs = record { packet = record { number = 0; session = 0; size = 2; tag = 1; stamp = 1; latest = 4 }; at = 0; owed = 2 } ∷ []}
+    refl;
 }
 
 pub bounds-are-attained : Bounds-are-attained

@@ -96,9 +96,9 @@ latest-tick-as-late-as-can-be = record {
   drafted = three-link-is-real;
   calls = Arrive 0 1 2 ∷ MoveTo 1 ∷ Arrive 0 2 1 ∷ [];
   holds = here
-    {x = record { packet = record { number = 1; session = 0; size = 1; tag = 2; stamp = 4; latest = 7 }; at = 1; owed = 2 }}
-    {xs = record { packet = record { number = 0; session = 0; size = 2; tag = 1; stamp = 1; latest = 4 }; at = 0; owed = 2 } ∷ []}
-    refl;
+      {x = record { packet = record { number = 1; session = 0; size = 1; tag = 2; stamp = 4; latest = 7 }; at = 1; owed = 2 }}
+      {xs = record { packet = record { number = 0; session = 0; size = 2; tag = 1; stamp = 1; latest = 4 }; at = 0; owed = 2 } ∷ []}
+      refl;
 }
 
 pub bounds-are-attained : Bounds-are-attained

@@ -159,24 +159,24 @@ pub record A-small-morning-stands : Type 0 where
   pub adding-one : adding (record { link = 7; largest = 10; capacity = 8; weights = 2 ∷ [] }) 1 ≡ Ok 1
   pub opening : round-length (first-link .weights) ≡ 3
   pub said : answers first-link (reverse small-morning) ≡
-    Accepted 0 7 17
-    ∷ Accepted 1 5 15
-    ∷ Moved 2 1
-    ∷ FiguresAre (record { accepted = 2; sent = 2; served = 0; lead = pos 2; waiting = 0 })
-    ∷ Collected (Some (record { link = 7; packet = 1; session = 1; size = 2; tag = 101; started = 0; left = 2 }))
-    ∷ Filed 1
-    ∷ Refused TooLong
-    ∷ Refused TickPassed
-    ∷ TotalsAre (record { waiting = 1; sending = 0; left = 0; out = 0; filed = 1; returned = 0 })
-    ∷ []
+      Accepted 0 7 17
+      ∷ Accepted 1 5 15
+      ∷ Moved 2 1
+      ∷ FiguresAre (record { accepted = 2; sent = 2; served = 0; lead = pos 2; waiting = 0 })
+      ∷ Collected (Some (record { link = 7; packet = 1; session = 1; size = 2; tag = 101; started = 0; left = 2 }))
+      ∷ Filed 1
+      ∷ Refused TooLong
+      ∷ Refused TickPassed
+      ∷ TotalsAre (record { waiting = 1; sending = 0; left = 0; out = 0; filed = 1; returned = 0 })
+      ∷ []
   pub printed : map values (answers first-link (reverse small-morning)) ≡
-    (pos 0 ∷ pos 7 ∷ pos 17 ∷ [])
-    ∷ (pos 1 ∷ pos 5 ∷ pos 15 ∷ [])
-    ∷ (pos 2 ∷ pos 1 ∷ [])
-    ∷ (pos 2 ∷ pos 2 ∷ pos 0 ∷ pos 2 ∷ pos 0 ∷ [])
-    ∷ (pos 1 ∷ pos 1 ∷ pos 101 ∷ pos 0 ∷ pos 2 ∷ [])
-    ∷ (pos 1 ∷ [])
-    ∷ (pos 33 ∷ [])
-    ∷ (pos 41 ∷ [])
-    ∷ (pos 1 ∷ pos 0 ∷ pos 0 ∷ pos 0 ∷ pos 1 ∷ pos 0 ∷ [])
-    ∷ []
+      (pos 0 ∷ pos 7 ∷ pos 17 ∷ [])
+      ∷ (pos 1 ∷ pos 5 ∷ pos 15 ∷ [])
+      ∷ (pos 2 ∷ pos 1 ∷ [])
+      ∷ (pos 2 ∷ pos 2 ∷ pos 0 ∷ pos 2 ∷ pos 0 ∷ [])
+      ∷ (pos 1 ∷ pos 1 ∷ pos 101 ∷ pos 0 ∷ pos 2 ∷ [])
+      ∷ (pos 1 ∷ [])
+      ∷ (pos 33 ∷ [])
+      ∷ (pos 41 ∷ [])
+      ∷ (pos 1 ∷ pos 0 ∷ pos 0 ∷ pos 0 ∷ pos 1 ∷ pos 0 ∷ [])
+      ∷ []

@@ -15,26 +15,22 @@ ghost use Rattle.tick_machine.specs.Sharp.{Bounds-are-attained};
 // The definitions give every worked case.
 pub fn worked_cases_stand()
     ensures { λ _. ⌜ Every-case-holds ⌝ }
-{
-}
+{}
 
 // A link's life from making to totals, call by call.
 pub fn a_small_morning_stands()
     ensures { λ _. ⌜ A-small-morning-stands ⌝ }
-{
-}
+{}
 
 // Stamps from n alone, V from the line and choosing by the first slot each give another answer than ours.
 pub fn wrong_rules_differ()
     ensures { λ _. ⌜ Wrong-rules-differ ⌝ }
-{
-}
+{}
 
 // No bound of the law can be made smaller.
 pub fn bounds_are_attained()
     ensures { λ _. ⌜ Bounds-are-attained ⌝ }
-{
-}
+{}
 
 // Making takes numbers up to its limits, and refuses for the first that lies outside them.
 pub fn limits_of_making_stand()
@@ -45,8 +41,7 @@ pub fn limits_of_making_stand()
         ∗ ⌜ made 65535 65535 1025 4097 ≡ Err Capacity ⌝
         ∗ ⌜ made 65535 65535 1024 4097 ≡ Err FirstWeight ⌝ }
     ensures zero { λ _. ⌜ made 0 0 0 0 ≡ Err Largest ⌝ ∗ ⌜ made 0 1 0 0 ≡ Err Capacity ⌝ ∗ ⌜ made 0 1 1 0 ≡ Err FirstWeight ⌝ }
-{
-}
+{}
 
 // A round takes 4096 slots and no more.
 pub fn limits_of_adding_stand()
@@ -56,8 +51,7 @@ pub fn limits_of_adding_stand()
         ∗ ⌜ adding (record { link = 7; largest = 10; capacity = 8; weights = 4000 ∷ [] }) 97 ≡ Err TooMuchWeight ⌝
         ∗ ⌜ adding (record { link = 7; largest = 10; capacity = 8; weights = replicate 63 2 }) 3970 ≡ Ok 63 ⌝
         ∗ ⌜ adding (record { link = 7; largest = 10; capacity = 8; weights = replicate 64 2 }) 4097 ≡ Err TooManySessions ⌝ }
-{
-}
+{}
 
 // Calls of the first link, just opened, are refused for the first limit that they pass.
 pub fn limits_of_calls_stand()
@@ -71,5 +65,4 @@ pub fn limits_of_calls_stand()
     ensures settlements { λ _.
         ⌜ answer first-link (opened first-link) (File 8 0) ≡ Refused OtherLink ⌝
         ∗ ⌜ answer first-link (opened first-link) (Return 7 0) ≡ Refused NotOut ⌝ }
-{
-}
+{}

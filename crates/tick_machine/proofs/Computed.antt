@@ -1,11 +1,10 @@
 -- The worked cases, the small morning, the wrong rules and the sharp bounds, by computation. Assumes nothing.
-use mathlib.Core.Path.{_≡_, refl}
+use mathlib.Core.Path.{refl}
 use mathlib.Core.List.{List, [], _∷_}
-use Prim.Native.Nat.{ℕ}
 use lib.Dec.{lit≤}
 use Rattle.tick_machine.specs.declared.call.Call.{Call}
 use Rattle.tick_machine.specs.declared.call.Call.the-variants.{Arrive, MoveTo}
-use Rattle.tick_machine.specs.Lists.{All, none, more}
+use Rattle.tick_machine.specs.Lists.{none, more}
 use Rattle.tick_machine.specs.Slots.{holder}
 use Rattle.tick_machine.specs.Machine.{Config}
 use Rattle.tick_machine.specs.Law.{Drafted}

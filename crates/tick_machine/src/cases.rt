@@ -1,4 +1,5 @@
-// What the definitions give: worked cases, a small morning, where wrong rules go astray, and histories that attain each bound of the law.
+// What the definitions give: worked cases, a small morning, where wrong rules go astray, histories that attain each bound of the law, and the
+// limits of making, adding and calls. The first four are computed in proofs/Computed.
 ghost use mathlib.Core.Path.{_≡_};
 ghost use mathlib.Core.List.{[], _∷_};
 ghost use lib.ListN.{replicate};
@@ -43,7 +44,7 @@ pub fn limits_of_making_stand()
     ensures zero { λ _. ⌜ made 0 0 0 0 ≡ Err Largest ⌝ ∗ ⌜ made 0 1 0 0 ≡ Err Capacity ⌝ ∗ ⌜ made 0 1 1 0 ≡ Err FirstWeight ⌝ }
 {}
 
-// A round takes 4096 slots and no more.
+// A link takes 64 sessions and a round 4096 slots, and no more.
 pub fn limits_of_adding_stand()
     ensures { λ _.
         ⌜ adding (record { link = 7; largest = 10; capacity = 8; weights = 4000 ∷ [] }) 0 ≡ Err Weight ⌝

@@ -2,3 +2,4 @@
 // and no element is before its parent, so the first is the least. A sift walks one path of that tree, O(log n) steps.
 pub mod order;
 pub mod sift;
+pub mod vec_heap;

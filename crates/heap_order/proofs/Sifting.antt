@@ -6,8 +6,9 @@ use mathlib.Core.List.{List}
 use Prim.Native.Nat.{ℕ, zero, suc, _+_, _-_, _*_, _/_, _≤_, _<_}
 use native.Mathlib.Omega.{arith}
 use lib.ListN.{length, getD}
+use Rattle.std.proofs.shelf.Lists.{getD-default}
 use Rattle.std.proofs.shelf.Tests.{cases-eq}
-use Rattle.heap_order.specs.Heaps.{parent, Heaped, Spanned, Loose, Heavy, LeastChild}
+use Rattle.heap_order.specs.Heaps.{parent, Heaped, HeapedAt, Spanned, Loose, Heavy, LeastChild}
 
 -- a list after an exchange of the elements at a and b
 pub record Swap {X : Type 0} (xs ys : List X) (a b : ℕ) : Type 0 where
@@ -22,6 +23,13 @@ swap-of l p q r = record { long = l; one = p; two = q; other = r }
 
 at : {X : Type 0} (xs : List X) (d : X) (k j : ℕ) → k ≡ j → getD xs k d ≡ getD xs j d
 at xs d k j e = ap (λ m. getD xs m d) e
+
+-- a heap read at one default is a heap
+pub heaped-from : {X : Type 0} (before : X → X → Bool) (e : X) (xs : List X) → HeapedAt before e xs → Heaped before xs
+heaped-from before e xs h k d lo l = (λ i. before (getD-default xs k d e l i) (getD-default xs (parent k) d e (omega arith) i)) ∙ h k lo l
+
+pub heaped-at : {X : Type 0} (before : X → X → Bool) (e : X) (xs : List X) → Heaped before xs → HeapedAt before e xs
+heaped-at before e xs h k lo l = h k e lo l
 
 module _ {X : Type 0} (before : X → X → Bool)
     (total : (x y : X) → before x y ≡ true → before y x ≡ false)

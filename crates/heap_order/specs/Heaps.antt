@@ -14,6 +14,10 @@ module _ {X : Type 0} (before : X → X → Bool) where
   abbrev pub Heaped : List X → Type 0
   Heaped xs = (k : ℕ) (d : X) → 0 < k → k < length xs → before (getD xs k d) (getD xs (parent k) d) ≡ false
 
+  -- the same with one element d for what stands past the end, as the invariant of a type has it
+  abbrev pub HeapedAt : X → List X → Type 0
+  HeapedAt d xs = (k : ℕ) → 0 < k → k < length xs → before (getD xs k d) (getD xs (parent k) d) ≡ false
+
   -- no child of the element at j is before the parent of j
   abbrev pub Spanned : List X → ℕ → Type 0
   Spanned xs j = (k : ℕ) (d : X) → 0 < j → k < length xs → parent k ≡ j → before (getD xs k d) (getD xs (parent j) d) ≡ false

@@ -4,3 +4,4 @@ pub mod pair;
 pub mod refusal;
 pub mod line;
 pub mod sorted_line;
+pub mod heap_line;

@@ -56,23 +56,23 @@ module _ {X : Type 0} (before : X → X → Bool)
   rises xs ys j pos in′ s t h = (
     λ k d lo f n. ⊎-elim
         (λ e. ⊎-elim
-          -- what came down, under the element that rose
-          (λ v. by _ _ _ _ (at ys d k j v ∙ s .two d) (at ys d (parent k) (parent j) e ∙ s .one d) (total _ _ (t d)))
-          -- the other child
-          (λ v. by _ _ _ _ (s .other k d n v) (at ys d (parent k) (parent j) e ∙ s .one d) (transitive _ _ _ (by _ _ _ _ refl (at xs d (parent j) (parent k) (omega arith)) (h .0 k d lo (omega (arith, s .long)) v)) (total _ _ (t d))))
-          (cases-eq k j))
+        -- what came down, under the element that rose
+        (λ v. by _ _ _ _ (at ys d k j v ∙ s .two d) (at ys d (parent k) (parent j) e ∙ s .one d) (total _ _ (t d)))
+        -- the other child
+        (λ v. by _ _ _ _ (s .other k d n v) (at ys d (parent k) (parent j) e ∙ s .one d) (transitive _ _ _ (by _ _ _ _ refl (at xs d (parent j) (parent k) (omega arith)) (h .0 k d lo (omega (arith, s .long)) v)) (total _ _ (t d))))
+        (cases-eq k j))
         (λ v. ⊎-elim
-          (λ e. by _ _ _ _ (s .other k d n (omega arith)) (at ys d (parent k) j e ∙ s .two d) (h .1 k d pos (omega (arith, s .long)) e))
-          (λ w. let m : k ≡ j → ⊥ = λ e. v (ap parent e) in by _ _ _ _ (s .other k d n m) (s .other (parent k) d v w) (h .0 k d lo (omega (arith, s .long)) m))
-          (cases-eq (parent k) j))
+        (λ e. by _ _ _ _ (s .other k d n (omega arith)) (at ys d (parent k) j e ∙ s .two d) (h .1 k d pos (omega (arith, s .long)) e))
+        (λ w. let m : k ≡ j → ⊥ = λ e. v (ap parent e) in by _ _ _ _ (s .other k d n m) (s .other (parent k) d v w) (h .0 k d lo (omega (arith, s .long)) m))
+        (cases-eq (parent k) j))
         (cases-eq (parent k) (parent j)),
     λ k d up f e.
         let over = h .0 (parent j) d up (omega arith) (omega arith) in
         let same = s .other (parent (parent j)) d (omega arith) (omega arith) in
         ⊎-elim
-          (λ v. by _ _ _ _ (at ys d k j v ∙ s .two d) same over)
-          (λ w. by _ _ _ _ (s .other k d (omega arith) w) same (transitive _ _ _ (by _ _ _ _ refl (at xs d (parent j) (parent k) (omega arith)) (h .0 k d (omega arith) (omega (arith, s .long)) w)) over))
-          (cases-eq k j),
+        (λ v. by _ _ _ _ (at ys d k j v ∙ s .two d) same over)
+        (λ w. by _ _ _ _ (s .other k d (omega arith) w) same (transitive _ _ _ (by _ _ _ _ refl (at xs d (parent j) (parent k) (omega arith)) (h .0 k d (omega arith) (omega (arith, s .long)) w)) over))
+        (cases-eq k j),
   )
 
   -- a leaf has no child
@@ -90,13 +90,13 @@ module _ {X : Type 0} (before : X → X → Bool)
   sinks xs ys j c pos under in′ s best t h = (
     λ k d lo f n. ⊎-elim
         (λ e. ⊎-elim
-          (λ v. by _ _ _ _ (at ys d k c v ∙ s .two d) (at ys d (parent k) j e ∙ s .one d) (total _ _ (t d)))
-          (λ v. by _ _ _ _ (s .other k d (omega arith) v) (at ys d (parent k) j e ∙ s .one d) (best k d lo (omega (arith, s .long)) e))
-          (cases-eq k c))
+        (λ v. by _ _ _ _ (at ys d k c v ∙ s .two d) (at ys d (parent k) j e ∙ s .one d) (total _ _ (t d)))
+        (λ v. by _ _ _ _ (s .other k d (omega arith) v) (at ys d (parent k) j e ∙ s .one d) (best k d lo (omega (arith, s .long)) e))
+        (cases-eq k c))
         (λ v. ⊎-elim
-          (λ e. by _ _ _ _ (at ys d k j e ∙ s .one d) (s .other (parent k) d v n ∙ at xs d (parent k) (parent j) (ap parent e)) (h .1 c d (omega arith) in′ under))
-          (λ w. by _ _ _ _ (s .other k d w (λ e. v (ap parent e ∙ under))) (s .other (parent k) d v n) (h .0 k d lo (omega (arith, s .long)) v))
-          (cases-eq k j))
+        (λ e. by _ _ _ _ (at ys d k j e ∙ s .one d) (s .other (parent k) d v n ∙ at xs d (parent k) (parent j) (ap parent e)) (h .1 c d (omega arith) in′ under))
+        (λ w. by _ _ _ _ (s .other k d w (λ e. v (ap parent e ∙ under))) (s .other (parent k) d v n) (h .0 k d lo (omega (arith, s .long)) v))
+        (cases-eq k j))
         (cases-eq (parent k) j),
     λ k d up f e. by _ _ _ _ (s .other k d (omega arith) (omega arith)) (at ys d (parent c) j under ∙ s .one d) (by _ _ _ _ refl (at xs d c (parent k) (omega arith)) (h .0 k d (omega arith) (omega (arith, s .long)) (omega arith))),
   )

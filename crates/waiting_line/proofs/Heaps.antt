@@ -67,11 +67,11 @@ leads p [] o w z = absurd (omega arith)
 leads p (q ∷ l) o w z =
     let a = and-parts (all-above (q .stamp) l) (in-order l) o in
     ⊎-elim
-      (λ e. let n : q .packet ≡ p .packet = omega (arith, w, weight-at (p .stamp) q (sym e), light (p .stamp) (q .stamp) l (omega arith) (a .0)) in λ k. Some (record { stamp = e k; packet = n k }))
-      (⊎-elim
-        (λ lt. absurd (omega (arith, z (q .stamp) lt, weight-at (q .stamp) q refl)))
-        (λ lt. absurd (omega (arith, w, weight-off (p .stamp) q (omega arith), light (p .stamp) (q .stamp) l (omega arith) (a .0)))))
-      (cases-order (q .stamp) (p .stamp))
+    (λ e. let n : q .packet ≡ p .packet = omega (arith, w, weight-at (p .stamp) q (sym e), light (p .stamp) (q .stamp) l (omega arith) (a .0)) in λ k. Some (record { stamp = e k; packet = n k }))
+    (⊎-elim
+    (λ lt. absurd (omega (arith, z (q .stamp) lt, weight-at (q .stamp) q refl)))
+    (λ lt. absurd (omega (arith, w, weight-off (p .stamp) q (omega arith), light (p .stamp) (q .stamp) l (omega arith) (a .0)))))
+    (cases-order (q .stamp) (p .stamp))
 
 pub least-first : (ps : List Pair) (p : Pair) → 0 < length ps → p ≡ getD ps 0 p → HeapedAt by-stamp blank ps → Apart ps → first (sorted ps) ≡ Some p
 least-first [] p l e h a = absurd (not-suc-le-zero l)

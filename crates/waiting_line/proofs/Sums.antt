@@ -86,13 +86,13 @@ same-by-sums (p ∷ ps) (q ∷ qs) o r h =
     let a = and-parts (all-above (p .stamp) ps) (in-order ps) o in
     let b = and-parts (all-above (q .stamp) qs) (in-order qs) r in
     ⊎-elim
-      (λ e.
-        let n : p .packet ≡ q .packet = omega (arith, h (p .stamp), weight-at (p .stamp) p refl, weight-at (p .stamp) q e, light (p .stamp) (p .stamp) ps (omega arith) (a .0), light (p .stamp) (q .stamp) qs (omega arith) (b .0)) in
-        let same : p ≡ q = λ k. record { stamp = e k; packet = n k } in
-        let tails : (s : ℕ) → total (weight s) ps ≡ total (weight s) qs = λ s. omega (arith, h s, ap (weight s) same) in
-        λ k. same k ∷ same-by-sums ps qs (a .1) (b .1) tails k)
-      (⊎-elim (λ l. absurd (head-first p q ps qs r h l)) (λ l. absurd (head-first q p qs ps o (λ s. sym (h s)) l)))
-      (cases-order (p .stamp) (q .stamp))
+    (λ e.
+    let n : p .packet ≡ q .packet = omega (arith, h (p .stamp), weight-at (p .stamp) p refl, weight-at (p .stamp) q e, light (p .stamp) (p .stamp) ps (omega arith) (a .0), light (p .stamp) (q .stamp) qs (omega arith) (b .0)) in
+    let same : p ≡ q = λ k. record { stamp = e k; packet = n k } in
+    let tails : (s : ℕ) → total (weight s) ps ≡ total (weight s) qs = λ s. omega (arith, h s, ap (weight s) same) in
+    λ k. same k ∷ same-by-sums ps qs (a .1) (b .1) tails k)
+    (⊎-elim (λ l. absurd (head-first p q ps qs r h l)) (λ l. absurd (head-first q p qs ps o (λ s. sym (h s)) l)))
+    (cases-order (p .stamp) (q .stamp))
 
 -- no copy of a stamp, so it is not there; and the other way round
 pub no-copy : (s : ℕ) (ps : List Pair) → copies s ps ≡ 0 → holds s ps ≡ false

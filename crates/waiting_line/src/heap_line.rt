@@ -9,7 +9,7 @@ ghost use lib.ListN.{length, getD};
 ghost use Rattle.std.specs.Options.{Cases as BySome};
 ghost use Rattle.std.specs.Of.Vec.{vec-len, vec-cap, vec-items};
 ghost use Rattle.heap_order.specs.Heaps.{HeapedAt};
-ghost use Rattle.waiting_line.specs.Lines.{fitting, holds};
+ghost use Rattle.waiting_line.specs.Lines.{holds};
 ghost use Rattle.waiting_line.specs.Kept.{blank, by-stamp, sorted, copies, reaching};
 use crate::line::WaitingLine;
 use crate::pair::Pair;
@@ -39,7 +39,8 @@ pub struct HeapLine {
     ghost topped: { reaching (highest + 1) (vec-items items) ≡ 0 },
     ghost reserved: { limit ≤ vec-cap items },
     ghost inside: { vec-len items ≤ limit },
-    ghost fits: { fitting limit ≡ true },
+    ghost some: { 1 ≤ limit },
+    ghost few: { limit ≤ 1024 },
 }
 
 impl HeapLine {
@@ -62,7 +63,11 @@ impl HeapLine {
         if self.items.is_empty() || stamp > self.highest {
             return Some(stamp);
         }
-        if self.has(stamp) { None } else { Some(self.highest) }
+        if self.has(stamp) {
+            None
+        } else {
+            Some(self.highest)
+        }
     }
 }
 
@@ -76,13 +81,21 @@ pub impl WaitingLine for HeapLine as HeapWaits {
             return Err(MakeRefusal::Capacity);
         }
         match Vec::with_capacity(heap, limit as usize) {
-            Ok(items) => Ok(HeapLine { items, limit, highest: 0 }),
+            Ok(items) => Ok(HeapLine {
+                items,
+                limit,
+                highest: 0,
+            }),
             Err(_) => Err(MakeRefusal::NoMemory),
         }
     }
 
     fn room(&self) -> Result<(), LineRefusal> {
-        if self.size() < self.limit { Ok(()) } else { Err(LineRefusal::Full) }
+        if self.size() < self.limit {
+            Ok(())
+        } else {
+            Err(LineRefusal::Full)
+        }
     }
 
     fn put(&mut self, pair: Pair) -> Result<(), LineRefusal> {

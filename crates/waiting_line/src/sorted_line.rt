@@ -10,7 +10,7 @@ ghost use Rattle.std.specs.Holes.{inserted};
 ghost use Rattle.std.specs.Of.Vec.{vec-len, vec-cap, vec-items};
 ghost use Rattle.tick_machine.specs.Lists.{insert as insertion};
 ghost use Rattle.tick_machine.specs.declared.refusal.LineRefusal.the-variants.{Twice};
-ghost use Rattle.waiting_line.specs.Lines.{stamp-of, fitting, holds};
+ghost use Rattle.waiting_line.specs.Lines.{stamp-of, holds};
 ghost use Rattle.waiting_line.specs.Kept.{blank, in-order};
 use crate::line::WaitingLine;
 use crate::pair::Pair;
@@ -25,7 +25,8 @@ pub struct SortedLine {
     ghost rising: { in-order (vec-items items) ≡ true },
     ghost reserved: { limit ≤ vec-cap items },
     ghost inside: { vec-len items ≤ limit },
-    ghost fits: { fitting limit ≡ true },
+    ghost some: { 1 ≤ limit },
+    ghost few: { limit ≤ 1024 },
 }
 
 impl SortedLine {
@@ -76,7 +77,11 @@ pub impl WaitingLine for SortedLine as SortedWaits {
     }
 
     fn room(&self) -> Result<(), LineRefusal> {
-        if self.size() < self.limit { Ok(()) } else { Err(LineRefusal::Full) }
+        if self.size() < self.limit {
+            Ok(())
+        } else {
+            Err(LineRefusal::Full)
+        }
     }
 
     fn put(&mut self, pair: Pair) -> Result<(), LineRefusal> {

@@ -18,10 +18,10 @@ returns-then-is-empty c =
     let ps = vec-items (self .items) in
     let s = c .args .stamp in
     let high : reaching s ps ≡ 0 = elim (c .then-is-empty .came) [
-      then-is-empty·by·then-is-empty w ↦
-        let h = w .if-is-empty .ensures tt in
-        let z : length ps ≡ 0 = search (tests, needs) in
-        reaching-empty s ps z
+      | then-is-empty·by·then-is-empty w ↦
+          let h = w .if-is-empty .ensures tt in
+          let z : length ps ≡ 0 = search (tests, needs) in
+          reaching-empty s ps z
       | then-is-empty·by·else-is-empty·then-stamp-self w ↦ reaching-more (self .highest + 1) s ps (omega (arith, w .if-stamp-self .taken)) (self .topped)
     ] in
     (reaching-fresh s ps high, omega arith, reaching-more s (s + 1) ps (omega arith) high)

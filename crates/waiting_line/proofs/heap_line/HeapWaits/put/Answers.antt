@@ -36,10 +36,9 @@ ghost-self c =
     let room = room-tells (sorted ps) (self .limit) (sym (c .in-Continue-room .ensures tt)) in
     let n = length-sorted ps in
     let new = c .in-Some .ensures tt in
-    let said = c .push .ensures in
-    (
+    let said = c .push .ensures in (
       heaped-at by-stamp blank _ (said .heaped),
-      (put-apart p ps _ (said .shuffled) (self .apart) (new .0), (put-topped p ps _ (c .in-Some .highest) (said .shuffled) (new .1) (new .2), (search needs, (omega arith, (self .fits, tt))))),
+      (put-apart p ps _ (said .shuffled) (self .apart) (new .0), (put-topped p ps _ (c .in-Some .highest) (said .shuffled) (new .1) (new .2), (search needs, (omega arith, (self .some, (self .few, tt)))))),
     )
 
 pub returns : need.returns

@@ -25,10 +25,9 @@ take-first-requires c κs =
 pub ghost-self : need.ghost-self
 ghost-self c =
     let s = c .args .self .now in
-    let said = c .take-first .ensures in
-    (
+    let said = c .take-first .ensures in (
       heaped-at by-stamp blank _ (said .heaped),
-      (taken-apart _ _ _ (said .shuffled) (s .apart), (taken-topped _ _ _ (s .highest + 1) (said .shuffled) (s .topped), (search needs, (search needs, (s .fits, tt))))),
+      (taken-apart _ _ _ (said .shuffled) (s .apart), (taken-topped _ _ _ (s .highest + 1) (said .shuffled) (s .topped), (search needs, (search needs, (s .some, (s .few, tt)))))),
     )
 
 pub returns : need.returns

@@ -6,6 +6,7 @@ use Prim.Native.Nat.{ℕ, _<_, _≤_}
 use native.Mathlib.Omega.{arith}
 use lib.Dec.{ltb, eqb}
 use lib.ListN.{length}
+use Rattle.std.specs.declared.option.Option.the-variants.{Some, None}
 use Rattle.std.specs.declared.result.Result.{Result}
 use Rattle.std.specs.declared.result.Result.the-variants.{Ok, Err}
 use Rattle.std.specs.Results.{isOk}
@@ -14,7 +15,7 @@ use Rattle.tick_machine.specs.Lists.{All, none, more, insert}
 use Rattle.tick_machine.specs.declared.refusal.LineRefusal.{LineRefusal}
 use Rattle.tick_machine.specs.declared.refusal.LineRefusal.the-variants.{Full, Twice}
 use Rattle.waiting_line.specs.declared.pair.Pair.{Pair}
-use Rattle.waiting_line.specs.Lines.{stamp-of, holds, room-answer, put-answer, put-after}
+use Rattle.waiting_line.specs.Lines.{stamp-of, holds, room-answer, put-answer, put-after, first, rest}
 
 -- the answer, and the list after it, by the two tests: there is room, the stamp is there
 abbrev by-tests : Bool → Bool → Result (Unit {0}) LineRefusal
@@ -92,3 +93,12 @@ holds-none s (p ∷ ps) (more n h) = or-from _ _ (ne-eqb _ _ n) (holds-none s ps
 pub none-holds : (s : ℕ) (ps : List Pair) → holds s ps ≡ false → All (λ p. s ≡ p .stamp → ⊥) ps
 none-holds s [] h = none
 none-holds s (p ∷ ps) h = let a = or-parts (eqb s (p .stamp)) (holds s ps) h in more (eqb-false _ _ (a .0)) (none-holds s ps (a .1))
+
+-- what `least` and `take` tell
+pub some-tells : (ps : List Pair) (p : Pair) → Some p ≡ first ps → ps ≡ p ∷ rest ps
+some-tells [] p e = absurd (let z : _≡_ {A = ℕ} 0 1 = cc in omega arith)
+some-tells (q ∷ ps) p e = let same : q ≡ p = cc in λ i. same i ∷ ps
+
+pub none-tells : (ps : List Pair) → None ≡ first ps → ps ≡ []
+none-tells [] e = refl
+none-tells (q ∷ ps) e = absurd (let z : _≡_ {A = ℕ} 0 1 = cc in omega arith)

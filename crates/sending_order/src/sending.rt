@@ -36,7 +36,11 @@ pub fn reason(refusal: LineRefusal) -> &'static str {
 }
 
 // Puts each pair, and answers the refusals.
-fn put_all<W: WaitingLine>(heap: Global, line: &mut W, given: &[Given]) -> Result<Vec<Refused>, AllocError> {
+fn put_all<W: WaitingLine>(
+    heap: Global,
+    line: &mut W,
+    given: &[Given],
+) -> Result<Vec<Refused>, AllocError> {
     let mut refused = Vec::new(heap);
     for one in given {
         if let Err(refusal) = line.put(one.pair) {
@@ -61,7 +65,11 @@ fn take_all<W: WaitingLine>(heap: Global, line: &mut W) -> Result<Vec<Pair>, All
 }
 
 // Puts the pairs into a line of that capacity, and takes all.
-pub fn send<W: WaitingLine + Drop>(heap: Global, capacity: u64, given: &[Given]) -> Result<Sent, AnyError> {
+pub fn send<W: WaitingLine + Drop>(
+    heap: Global,
+    capacity: u64,
+    given: &[Given],
+) -> Result<Sent, AnyError> {
     let Ok(mut line) = W::make(heap, capacity) else {
         return Err("no line could be made".into());
     };

@@ -35,7 +35,10 @@ fn told(answer: Result<(), LineRefusal>) -> Option<u64> {
 fn play<W: WaitingLine>(line: &mut W, step: Step) -> Result<(), Fail> {
     match step {
         Step::Room(refusal) => check_eq(told(line.room()), refusal),
-        Step::Put(stamp, packet, refusal) => check_eq(told(line.put(Pair { stamp, packet })), refusal),
+        Step::Put(stamp, packet, refusal) => check_eq(
+            told(line.put(Pair { stamp, packet })),
+            refusal,
+        ),
         Step::Least(first) => check_eq(line.least(), first),
         Step::Take(first) => check_eq(line.take(), first),
         Step::Size(count) => check_eq(line.size(), count),

@@ -1,8 +1,10 @@
 // Puts into a waiting line, and takes from it.
 ghost use mathlib.Core.Path.{_≡_};
-ghost use mathlib.Core.List.{List, []};
+ghost use mathlib.Core.List.{List, [], _++_};
 ghost use Rattle.std.specs.Vec.{made};
 ghost use Rattle.std.specs.Of.Vec.{vec-items};
+ghost use Rattle.waiting_line.specs.Lines.{put-answer, put-after};
+ghost use Rattle.sending_order.specs.Sending.{waiting-after, noted, refusals};
 use crate::reading::Given;
 use std::alloc::AllocError;
 use std::alloc::Global;
@@ -35,20 +37,37 @@ pub fn reason(refusal: LineRefusal) -> &'static str {
     }
 }
 
+// The refusal of a put, if it is refused, kept with the others.
+fn put_one<W: WaitingLine>(
+    line: &mut W,
+    one: Given,
+    refused: &mut Vec<Refused>,
+) -> Result<(), AllocError>
+    ensures { λ r. ⌜ made r (λ _. (W·WaitingLine .pairs (now (line .exit)) ≡ put-after (W·WaitingLine .pairs (now (line .entry))) (W·WaitingLine .capacity (now (line .entry))) (one .pair)) × (vec-items (now (refused .exit)) ≡ vec-items (now (refused .entry)) ++ noted (one .line) (put-answer (W·WaitingLine .pairs (now (line .entry))) (W·WaitingLine .capacity (now (line .entry))) (one .pair))) × (W·WaitingLine .capacity (now (line .exit)) ≡ W·WaitingLine .capacity (now (line .entry)))) ⌝ }
+{
+    match line.put(one.pair) {
+        Ok(()) => Ok(()),
+        Err(refusal) => {
+            refused.push(Refused {
+                line: one.line,
+                refusal,
+            })?;
+            Ok(())
+        }
+    }
+}
+
 // Puts each pair, and answers the refusals.
 fn put_all<W: WaitingLine>(
     heap: Global,
     line: &mut W,
     given: &[Given],
-) -> Result<Vec<Refused>, AllocError> {
+) -> Result<Vec<Refused>, AllocError>
+    ensures { λ r. ⌜ made r (λ v. (vec-items v ≡ refusals (W·WaitingLine .capacity (now (line .entry))) (W·WaitingLine .pairs (now (line .entry))) (now (given .entry))) × (W·WaitingLine .pairs (now (line .exit)) ≡ waiting-after (W·WaitingLine .capacity (now (line .entry))) (W·WaitingLine .pairs (now (line .entry))) (now (given .entry)))) ⌝ }
+{
     let mut refused = Vec::new(heap);
     for one in given {
-        if let Err(refusal) = line.put(one.pair) {
-            refused.push(Refused {
-                line: one.line,
-                refusal,
-            })?;
-        }
+        put_one(line, *one, &mut refused)?;
     }
     Ok(refused)
 }
@@ -64,12 +83,14 @@ fn take_all<W: WaitingLine>(heap: Global, line: &mut W) -> Result<Vec<Pair>, All
     Ok(order)
 }
 
-// Puts the pairs into a line of that capacity, and takes all.
+// Puts the pairs into a line of that capacity, and takes all. What is sent, and what is refused, is the same for every line.
 pub fn send<W: WaitingLine + Drop>(
     heap: Global,
     capacity: u64,
     given: &[Given],
-) -> Result<Sent, AnyError> {
+) -> Result<Sent, AnyError>
+    ensures { λ r. ⌜ made r (λ s. (vec-items (s .refused) ≡ refusals capacity [] (now (given .entry))) × (vec-items (s .order) ≡ waiting-after capacity [] (now (given .entry)))) ⌝ }
+{
     let Ok(mut line) = W::make(heap, capacity) else {
         return Err("no line could be made".into());
     };

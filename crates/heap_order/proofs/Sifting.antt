@@ -3,12 +3,12 @@ use mathlib.Core.Path.{_≡_, refl, ap, _∙_}
 use mathlib.Core.Bool.{Bool, true, false}
 use mathlib.Core.Logic.{⊎-elim}
 use mathlib.Core.List.{List}
-use Prim.Native.Nat.{ℕ, zero, suc, _+_, _-_, _*_, _/_, _≤_, _<_}
+use Prim.Native.Nat.{ℕ, zero, suc, _+_, _-_, _*_, _≤_, _<_}
 use native.Mathlib.Omega.{arith}
 use lib.ListN.{length, getD}
 use Rattle.std.proofs.shelf.Lists.{getD-default}
 use Rattle.std.proofs.shelf.Tests.{cases-eq}
-use Rattle.heap_order.specs.Heaps.{parent, Heaped, HeapedAt, Spanned, Loose, Heavy, LeastChild}
+use Rattle.heap_order.specs.Heaps.{parent, Heaped, HeapedAt, Loose, Heavy, LeastChild}
 
 -- a list after an exchange of the elements at a and b
 pub record Swap {X : Type 0} (xs ys : List X) (a b : ℕ) : Type 0 where
@@ -41,10 +41,6 @@ module _ {X : Type 0} (before : X → X → Bool)
   never x true e = total x x e
   never x false e = e
 
-  -- the first has no parent
-  pub top-rests : (xs : List X) (j : ℕ) → j ≡ 0 → Loose before xs j → Heaped before xs
-  top-rests xs j z h k d lo f = h .0 k d lo f (omega arith)
-
   -- the element at j is not before its parent
   pub rests : (xs : List X) (j : ℕ) → ((d : X) → before (getD xs j d) (getD xs (parent j) d) ≡ false) → Loose before xs j → Heaped before xs
   rests xs j t h k d lo f = ⊎-elim
@@ -74,10 +70,6 @@ module _ {X : Type 0} (before : X → X → Bool)
         (λ w. by _ _ _ _ (s .other k d (omega arith) w) same (transitive _ _ _ (by _ _ _ _ refl (at xs d (parent j) (parent k) (omega arith)) (h .0 k d (omega arith) (omega (arith, s .long)) w)) over))
         (cases-eq k j),
   )
-
-  -- a leaf has no child
-  pub leaf-rests : (xs : List X) (j : ℕ) → length xs ≤ j * 2 + 1 → Heavy before xs j → Heaped before xs
-  leaf-rests xs j l h k d lo f = h .0 k d lo f (omega arith)
 
   -- the least child is not before the element at j
   pub lies : (xs : List X) (j c : ℕ) → LeastChild before xs j c → ((d : X) → before (getD xs c d) (getD xs j d) ≡ false) → Heavy before xs j → Heaped before xs

@@ -1,6 +1,6 @@
 // Puts into a waiting line, and takes from it.
 ghost use mathlib.Core.Path.{_≡_};
-ghost use mathlib.Core.List.{List, [], _++_};
+ghost use mathlib.Core.List.{[], _++_};
 ghost use Rattle.std.specs.Vec.{made};
 ghost use Rattle.std.specs.Of.Vec.{vec-items};
 ghost use Rattle.waiting_line.specs.Lines.{put-answer, put-after};

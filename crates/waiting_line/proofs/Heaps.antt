@@ -1,25 +1,23 @@
 -- The heap of a line: its first pair is the least, and what a put and a take leave. Assumes nothing.
 use mathlib.Core.Path.{_≡_, refl, sym, ap, subst, _∙_}
 use mathlib.Core.Logic.{⊎-elim}
-use mathlib.Core.Bool.{Bool, true, false, cond, _&&_}
+use mathlib.Core.Bool.{true, false}
 use mathlib.Core.List.{List, [], _∷_, _++_}
-use Prim.Native.Nat.{ℕ, zero, suc, _+_, _<_, _≤_}
-use native.Mathlib.Nat.{not-suc-le-zero, le-of-suc-le-suc}
+use Prim.Native.Nat.{ℕ, suc, _+_, _<_, _≤_}
+use native.Mathlib.Nat.{not-suc-le-zero}
 use native.Mathlib.Omega.{arith}
-use lib.Dec.{ltb, leb, eqb}
 use lib.ListN.{length, getD}
 use Rattle.std.specs.Slices.{Shuffled}
-use Rattle.std.specs.declared.option.Option.{Option}
 use Rattle.std.specs.declared.option.Option.the-variants.{Some, None}
-use Rattle.std.proofs.shelf.Tests.{ltb-true, ltb-false, lt-ltb, le-ltb, ne-eqb, and-parts, or-from, cases-order, cases-eq}
-use Rattle.heap_order.specs.Heaps.{Heaped, HeapedAt}
+use Rattle.std.proofs.shelf.Tests.{ltb-true, ltb-false, le-ltb, ne-eqb, and-parts, or-from, cases-order, cases-eq}
+use Rattle.heap_order.specs.Heaps.{HeapedAt}
 use Rattle.heap_order.proofs.Sifting.{heaped-from, first-least}
 use Rattle.tick_machine.specs.Lists.{total, insert}
 use Rattle.waiting_line.specs.declared.pair.Pair.{Pair}
 use Rattle.waiting_line.specs.Lines.{stamp-of, holds, first, rest}
 use Rattle.waiting_line.specs.Kept.{blank, all-above, in-order, by-stamp, sorted, copies, reaching}
 use Rattle.waiting_line.proofs.Orders.{put-in-order}
-use Rattle.waiting_line.proofs.Sums.{total-shuffled, total-push, weight, weight-at, weight-off, hit, hit-at, hit-off, total-sorted, light, same-by-sums, no-copy, not-there, Apart, sorted-in-order, holds-sorted, reach, reach-off}
+use Rattle.waiting_line.proofs.Sums.{total-shuffled, total-push, weight, weight-at, weight-off, hit, hit-at, hit-off, total-sorted, light, same-by-sums, not-there, Apart, sorted-in-order, holds-sorted, reach, reach-off}
 
 -- stamps are in a total order
 total-order : (x y : Pair) → by-stamp x y ≡ true → by-stamp y x ≡ false

@@ -1,17 +1,17 @@
 -- Pairs and their sums. A list in order is known by its sums, and a rearrangement keeps them. Assumes nothing.
-use mathlib.Core.Path.{_≡_, refl, sym, ap, subst, _∙_}
+use mathlib.Core.Path.{_≡_, refl, sym, ap, _∙_}
 use mathlib.Core.Logic.{⊎-elim}
-use mathlib.Core.Bool.{Bool, true, false, cond, _&&_, _||_}
+use mathlib.Core.Bool.{true, false}
 use mathlib.Core.List.{List, [], _∷_, _++_}
-use Prim.Native.Nat.{ℕ, zero, suc, _+_, _<_, _≤_}
+use Prim.Native.Nat.{ℕ, _+_, _<_, _≤_}
 use native.Mathlib.Omega.{arith}
 use lib.Dec.{ltb, leb, eqb}
-use lib.ListN.{length, getD}
+use lib.ListN.{length}
 use Rattle.std.specs.Slices.{Shuffled}
 use Rattle.std.specs.shelf.Lists.{sumBy}
 use Rattle.std.proofs.shelf.Sums.{sumBy-cons}
 use Rattle.std.proofs.shelf.Sorted.{sumBy-shuffled}
-use Rattle.std.proofs.shelf.Tests.{ltb-true, le-leb, lt-leb, leb-true, ne-eqb, eq-eqb, eqb-true, and-parts, or-from, cond-both, cond-true, cond-false, cases-order, cases-bool, cases-eq, cases-lt, or-parts, both-ways}
+use Rattle.std.proofs.shelf.Tests.{ltb-true, le-leb, lt-leb, ne-eqb, eq-eqb, and-parts, or-from, cond-both, cond-true, cond-false, cases-order, cases-bool, cases-lt, or-parts, both-ways}
 use Rattle.tick_machine.specs.Lists.{total, only, insert}
 use Rattle.waiting_line.specs.declared.pair.Pair.{Pair}
 use Rattle.waiting_line.specs.Lines.{stamp-of, holds}

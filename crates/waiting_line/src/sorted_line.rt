@@ -2,9 +2,8 @@
 // as one block; a take moves the others down as one block. Its memory is reserved when it is made.
 ghost use mathlib.Core.Path.{_≡_};
 ghost use mathlib.Core.Bool.{true, false};
-ghost use mathlib.Core.List.{List, []};
 ghost use Prim.Native.Nat.{ℕ, _<_, _≤_};
-ghost use lib.ListN.{length, getD};
+ghost use lib.ListN.{getD};
 ghost use Rattle.std.specs.Results.{Cases};
 ghost use Rattle.std.specs.Holes.{inserted};
 ghost use Rattle.std.specs.Of.Vec.{vec-len, vec-cap, vec-items};

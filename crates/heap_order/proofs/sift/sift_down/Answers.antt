@@ -1,5 +1,4 @@
 use borrow.Author.Needs.{needs}
-use native.Mathlib.Omega.{arith}
 use Rattle.std.proofs.shelf.Sorted.{shuffled-trans}
 use Rattle.heap_order.proofs.Sifting.{swap-of, sinks, lies}
 use Rattle.heap_order.proofs.sift.sift_down.Needs as need

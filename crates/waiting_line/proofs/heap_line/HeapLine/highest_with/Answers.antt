@@ -2,11 +2,9 @@ use borrow.Author.Needs.{needs}
 use borrow.Author.Tests.{tests}
 use native.Mathlib.Omega.{arith}
 use mathlib.Core.Path.{_≡_}
-use mathlib.Core.Bool.{false}
 use Prim.Native.Nat.{_+_}
 use lib.ListN.{length}
 use Rattle.std.specs.Of.Vec.{vec-items}
-use Rattle.waiting_line.specs.Lines.{holds}
 use Rattle.waiting_line.specs.Kept.{reaching}
 use Rattle.waiting_line.proofs.Sums.{reaching-more, reaching-fresh, reaching-empty}
 use Rattle.waiting_line.proofs.heap_line.HeapLine.highest_with.Needs as need

@@ -1,8 +1,6 @@
 use borrow.Author.Needs.{needs}
 use native.Mathlib.Omega.{arith}
-use mathlib.Core.Path.{_≡_, refl, sym, _∙_}
-use Prim.Native.Nat.{_<_}
-use lib.ListN.{length}
+use mathlib.Core.Path.{refl, sym, _∙_}
 use Rattle.std.specs.Of.Vec.{vec-items}
 use Rattle.heap_order.proofs.Sifting.{heaped-from, heaped-at}
 use Rattle.waiting_line.specs.Kept.{blank, by-stamp, sorted}

@@ -9,6 +9,7 @@ The ticks that the simulator's shortcut leaves out are ticks in which nothing
 is owed, waiting or sending; no statement says anything new about those.
 """
 
+
 class AuditFailure(Exception):
     pass
 

@@ -16,6 +16,7 @@ and how many differ; if any does, or an audit fails, the status is 1.
 
 import argparse
 import os
+import re
 import shlex
 import subprocess
 import sys
@@ -30,6 +31,7 @@ from audit import AuditFailure
 
 WORKERS = 2
 PATIENCE = 60   # seconds for one run of a program
+LINE = re.compile(rb"[^\n]*\n|[^\n]+")
 SHOWN = 10      # differences of one program that are printed; all are counted
 
 
@@ -47,8 +49,8 @@ def run_program(command, history):
 
 def first_difference(expected, printed):
     """Line number and the two lines, each with its line end; None if all is equal."""
-    ours = expected.splitlines(keepends=True)
-    theirs = printed.splitlines(keepends=True)
+    ours = LINE.findall(expected)
+    theirs = LINE.findall(printed)
     for number in range(max(len(ours), len(theirs))):
         our_line = ours[number] if number < len(ours) else None
         their_line = theirs[number] if number < len(theirs) else None

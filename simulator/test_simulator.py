@@ -6,6 +6,7 @@ text, and machines with a wrong rule, which the audit must notice.
 """
 
 import os
+import re
 import subprocess
 import sys
 import unittest
@@ -98,6 +99,27 @@ class Listing(unittest.TestCase):
                 [sys.executable, os.path.join(HERE, "simulate.py")] + flags,
                 input=self.history(), stdout=subprocess.PIPE, check=True)
             self.assertEqual(done.stdout, self.PRINTED)
+
+
+class Examples(unittest.TestCase):
+    def example(self, name):
+        with open(os.path.join(HERE, "..", "examples", name), "rb") as file:
+            return file.read()
+
+    def test_printed(self):
+        for name in ("small", "morning"):
+            self.assertEqual(simulate.run(self.example(name + ".txt"), audit=True),
+                             self.example(name + ".printed.txt"))
+
+    def test_lines_quoted_in_the_explanation(self):
+        history = self.example("morning.txt").decode().split("\n")
+        printed = self.example("morning.printed.txt").decode().split("\n")
+        quoted = re.findall(r"^\| (\d+) \| `([^`]*)` \| `([^`]*)` \|",
+                            self.example("README.md").decode(), re.MULTILINE)
+        self.assertGreater(len(quoted), 10)
+        for number, asked, answered in quoted:
+            self.assertEqual((history[int(number) - 1], printed[int(number) - 1]),
+                             (asked, answered))
 
 
 class Refusals(unittest.TestCase):

@@ -193,7 +193,7 @@ def rush(d):
 def all_sessions(d):
     """64 sessions, each with packets; some of them silent for a while."""
     w = Writer(d)
-    w.open(d.among(2, 9), d.one_of((1, 64, 1_024)), some_weights(d, 64, d.one_of((1, 64))))
+    w.open(d.among(2, 9), d.one_of((1, 64, 1_024)), some_weights(d, 64, d.one_of((1, 3, 3, 64))))
     w.refused_call()
     for _ in range(d.among(2, 5)):
         for session in range(64):
@@ -346,15 +346,19 @@ def unsettled(d):
     """1,024 packets unsettled: waiting, sending, left and out together."""
     w = Writer(d)
     capacity = d.one_of((8, 100, 1_000, 1_024))
-    w.open(1, capacity, some_weights(d, d.among(1, 4), 3))
+    w.open(3, capacity, some_weights(d, d.among(1, 4), 3))
     accepted = 0
     while accepted < 1_024:
-        for _ in range(min(capacity, 1_024 - accepted)):
-            w.arr(d.below(w.sessions), 1)
-            accepted += 1
-        w.move(min(capacity, 1_024 - accepted) or d.among(1, 3))
+        count = min(capacity, 1_024 - accepted)
+        accepted += count
+        last = accepted == 1_024
+        for _ in range(count):
+            w.arr(d.below(w.sessions), 3 if last else 1)
+        # All of them leave; but of the last ones, one is on the line.
+        w.move(d.one_of((1, 2, 4, 5)) if last else count)
     w.any_arr()
-    w.line("arr", 0, 2, 0)
+    w.line("arr", 0, 4, 0)
+    w.line("tots")
     w.line("take")
     w.any_arr()
     w.line(d.one_of(("filed", "back")))

@@ -5,6 +5,7 @@ The cases computed by hand in docs/RULES.md, each refusal once, faults in the
 text, and machines with a wrong rule, which the audit must notice.
 """
 
+import hashlib
 import os
 import re
 import subprocess
@@ -14,6 +15,8 @@ import unittest
 HERE = os.path.dirname(os.path.abspath(__file__))
 sys.path.insert(0, HERE)
 
+import compare
+import histories
 import simulate
 from audit import Audit, AuditFailure
 
@@ -219,6 +222,28 @@ class Text(unittest.TestCase):
         self.check(b"link 1 1 1 1\nopen\narr 0 1 18446744073709551615\nat 1\ntake\ntake",
                    b"link 1\nopen 1\narr 0 0 1\nat 1 1\ntook 0 0 18446744073709551615 0 1\n"
                    b"text 62 6 1\nback 0\n")
+
+
+class Set(unittest.TestCase):
+    def test_the_set_is_fixed(self):
+        """The same 600 histories on every machine. A wanted change changes this sum."""
+        seeds = range(histories.FIRST_SEED, histories.FIRST_SEED + histories.COUNT)
+        whole = b"".join(histories.history(seed) for seed in seeds)
+        self.assertEqual(
+            hashlib.sha256(whole).hexdigest(),
+            "84ebf3120497a1bd7d4816b62a5f4ff0f3a1570507688e40df9d77a61d64fc8f")
+
+    def test_first_difference(self):
+        self.assertIsNone(compare.first_difference(b"a\nb\n", b"a\nb\n"))
+        self.assertEqual(compare.first_difference(b"a\nb\n", b"a\nc\n"), (2, b"b\n", b"c\n"))
+        self.assertEqual(compare.first_difference(b"a\nb\n", b"a\nb"), (2, b"b\n", b"b"))
+        self.assertEqual(compare.first_difference(b"a\n", b"a\n\n"), (2, None, b"\n"))
+        self.assertEqual(compare.first_difference(b"a\n", b""), (1, b"a\n", None))
+
+    def test_compare_notices(self):
+        good = f"{sys.executable} {os.path.join(HERE, 'simulate.py')}"
+        self.assertEqual(compare.compare([good, "cat"], range(1, 2))[0], [])
+        self.assertEqual(len(compare.compare([good, "cat"], range(1, 2))[1]), 1)
 
 
 class StampFromNAlone(simulate.RoundServer):

@@ -345,7 +345,7 @@ def fill_the_waiting_line(d):
 def unsettled(d):
     """1,024 packets unsettled: waiting, sending, left and out together."""
     w = Writer(d)
-    capacity = d.one_of((8, 100, 1_000, 1_024))
+    capacity = d.one_of((8, 50, 128, 1_000))
     w.open(3, capacity, some_weights(d, d.among(1, 4), 3))
     accepted = 0
     while accepted < 1_024:

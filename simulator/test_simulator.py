@@ -231,7 +231,7 @@ class Set(unittest.TestCase):
         whole = b"".join(histories.history(seed) for seed in seeds)
         self.assertEqual(
             hashlib.sha256(whole).hexdigest(),
-            "84ebf3120497a1bd7d4816b62a5f4ff0f3a1570507688e40df9d77a61d64fc8f")
+            "8e7b6709bd7c7800ec0095fe17132bf843f578c32f2556f399454d72e9658959")
 
     def test_first_difference(self):
         self.assertIsNone(compare.first_difference(b"a\nb\n", b"a\nb\n"))

@@ -2,6 +2,7 @@ pub mod Lists
 pub mod Refusals
 pub mod Slots
 pub mod Round
+pub mod Owed
 pub mod Sender
 pub mod Desk
 pub mod Machine

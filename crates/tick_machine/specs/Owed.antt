@@ -1,0 +1,27 @@
+-- The round server told by few numbers: V and, for each session, one more than the highest slot that it ever got. Assumes nothing.
+use mathlib.Core.List.{List, [], _∷_}
+use mathlib.Core.Bool.{Bool, cond}
+use Prim.Native.Nat.{ℕ, zero, suc, _-_, max}
+use lib.Dec.{ltb}
+use lib.ListN.{getD}
+use Rattle.tick_machine.specs.Slots.{owner}
+use Rattle.tick_machine.specs.Round.{Round}
+
+-- the numbers from v on, k of them
+abbrev pub from : ℕ → ℕ → List ℕ
+from v zero = []
+from v (suc k) = v ∷ from (suc v) k
+
+-- those that pass the test
+abbrev pub kept : (ℕ → Bool) → List ℕ → List ℕ
+kept test [] = []
+kept test (q ∷ qs) = cond (test q) (q ∷ kept test qs) (kept test qs)
+
+-- the greatest of the numbers, 0 if there is none
+abbrev pub greatest : List ℕ → ℕ
+greatest [] = 0
+greatest (n ∷ ns) = max n (greatest ns)
+
+-- every slot from V on that is below its owner's next is owed, and no other
+abbrev pub shown-round : List ℕ → ℕ → List ℕ → Round
+shown-round ws v next = record { cursor = v; owed = kept (λ q. ltb q (getD next (owner ws q) 0)) (from v (greatest next - v)); next = next }

@@ -1,0 +1,5 @@
+pub mod Busy
+pub mod Places
+pub mod Stretch
+pub mod Orderly
+pub mod Shown

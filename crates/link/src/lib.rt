@@ -1,0 +1,5 @@
+// The dispatcher of one line.
+pub mod slip;
+pub mod session;
+mod table;
+pub mod link;

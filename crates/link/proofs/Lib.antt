@@ -1,3 +1,6 @@
 pub mod Sessions
 pub mod Stretches
 pub mod Tables
+pub mod Loads
+pub mod Sends
+pub mod Spends

@@ -19,11 +19,11 @@ use Rattle.tick_machine.specs.Desk.{Desk, depart, joined}
 use Rattle.tick_machine.specs.Machine.{Config, Machine, raise, tick, ticks}
 use Rattle.link.specs.Stretch.{loaded, spent, line-after, leaver-after, sent-after, send-bytes}
 
-onward-some : (p : Packet) (s y : ℕ) → 1 ≤ y → onward p s y ≡ sending p s y
+pub onward-some : (p : Packet) (s y : ℕ) → 1 ≤ y → onward p s y ≡ sending p s y
 onward-some p s zero h = absurd (omega arith)
 onward-some p s (suc y) h = refl
 
-leaving-some : (t : ℕ) (p : Packet) (s y : ℕ) → 1 ≤ y → leaving t p s y ≡ None
+pub leaving-some : (t : ℕ) (p : Packet) (s y : ℕ) → 1 ≤ y → leaving t p s y ≡ None
 leaving-some t p s zero h = absurd (omega arith)
 leaving-some t p s (suc y) h = refl
 

@@ -54,32 +54,34 @@ by-number-accepted p (y ∷ ws) h =
     (λ _. insert-last p (by-number (y ∷ ws)) (all-by-number (y ∷ ws) h))
     (λ _. ap (insert number y) (by-number-accepted p ws (tail h)) ∙ insert-before p y (by-number ws) (head h))
 
+absent : (p : Packet) (ys : List Packet) (k : ℕ) (d : Packet) → All (λ q. q .number ≡ p .number → ⊥) ys → k < length ys → getD ys k d .number ≡ p .number → ⊥
+absent p [] k d a l e = omega arith
+absent p (y ∷ ys) zero d a l e = head a e
+absent p (y ∷ ys) (suc k) d a l e = absent p ys k d (tail a) (omega arith) e
+
+-- p stands at i, and xs is left when it is taken out
+abbrev Stands : Packet → List Packet → List Packet → ℕ → Packet → Type 0
+Stands p ys xs i d = i < length ys → getD ys i d .number ≡ p .number → (getD ys i d ≡ p) × (removed ys i ≡ xs)
+
+stands-first : (p : Packet) (xs : List Packet) (i : ℕ) (d : Packet) → All (λ q. q .number ≡ p .number → ⊥) xs → Stands p (p ∷ xs) xs i d
+stands-first p xs zero d h l e = (refl, refl)
+stands-first p xs (suc i) d h l e = absurd (absent p xs i d h (omega arith) e)
+
+stands-later : (p x : Packet) (ys xs : List Packet) (i : ℕ) (d : Packet) → (x .number ≡ p .number → ⊥) → ((k : ℕ) → Stands p ys xs k d) → Stands p (x ∷ ys) (x ∷ xs) i d
+stands-later p x ys xs zero d h f l e = absurd (h e)
+stands-later p x ys xs (suc i) d h f l e = let it = f i (omega arith) e in (it .0, ap (λ zs. x ∷ zs) (it .1))
+
 -- what stands under a packet's number is that packet, and the others are left when it is taken out
-found : (p : Packet) (xs : List Packet) (i : ℕ) (d : Packet) → All (λ q. q .number ≡ p .number → ⊥) xs → i < length (insert number p xs) → getD (insert number p xs) i d .number ≡ p .number
-    → (getD (insert number p xs) i d ≡ p) × (removed (insert number p xs) i ≡ xs)
-found p [] zero d h l e = (refl, refl)
-found p [] (suc i) d h l e = absurd (omega arith)
-found p (x ∷ xs) i d (more h t) l e =
-    cond-both (ltb (number p) (number x)) (p ∷ x ∷ xs) (x ∷ insert number p xs)
-    (λ ys. i < length ys → getD ys i d .number ≡ p .number → (getD ys i d ≡ p) × (removed ys i ≡ x ∷ xs))
-    (λ _. first i) (λ _. later i) l e
-  where
-    absent : (ys : List Packet) (k : ℕ) → All (λ q. q .number ≡ p .number → ⊥) ys → k < length ys → getD ys k d .number ≡ p .number → ⊥
-    absent [] k a l e = omega arith
-    absent (y ∷ ys) zero a l e = head a e
-    absent (y ∷ ys) (suc k) a l e = absent ys k (tail a) (omega arith) e
-
-    first : (k : ℕ) → k < length (p ∷ x ∷ xs) → getD (p ∷ x ∷ xs) k d .number ≡ p .number → (getD (p ∷ x ∷ xs) k d ≡ p) × (removed (p ∷ x ∷ xs) k ≡ x ∷ xs)
-    first zero l e = (refl, refl)
-    first (suc k) l e = absurd (absent (x ∷ xs) k (more h t) (omega arith) e)
-
-    later : (k : ℕ) → k < length (x ∷ insert number p xs) → getD (x ∷ insert number p xs) k d .number ≡ p .number → (getD (x ∷ insert number p xs) k d ≡ p) × (removed (x ∷ insert number p xs) k ≡ x ∷ xs)
-    later zero l e = absurd (h e)
-    later (suc k) l e = let ih = found p xs k d t (omega arith) e in (ih .0, ap (λ ys. x ∷ ys) (ih .1))
+found : (p : Packet) (xs : List Packet) (d : Packet) → All (λ q. q .number ≡ p .number → ⊥) xs → (i : ℕ) → Stands p (insert number p xs) xs i d
+found p [] d h i = stands-first p [] i d h
+found p (x ∷ xs) d h i =
+    cond-both (ltb (number p) (number x)) (p ∷ x ∷ xs) (x ∷ insert number p xs) (λ ys. Stands p ys (x ∷ xs) i d)
+    (λ _. stands-first p (x ∷ xs) i d h)
+    (λ _. stands-later p x (insert number p xs) xs i d (head h) (found p xs d (tail h)))
 
 pub by-number-found : (p : Packet) (ws : List Packet) (i : ℕ) → All (λ q. q .number ≡ p .number → ⊥) ws → At packet-number (p .number) (by-number (p ∷ ws)) i
     → (getD (by-number (p ∷ ws)) i (packet-number .blank) ≡ p) × (removed (by-number (p ∷ ws)) i ≡ by-number ws)
-by-number-found p ws i h a = found p (by-number ws) i (packet-number .blank) (all-by-number ws h) (a .within) (a .here)
+by-number-found p ws i h a = found p (by-number ws) (packet-number .blank) (all-by-number ws h) i (a .within) (a .here)
 
 -- and it does stand there
 there : (p : Packet) (xs : List Packet) (d : Packet) → ((k : ℕ) → k < length (insert number p xs) → getD (insert number p xs) k d .number ≡ p .number → ⊥) → ⊥

@@ -1,6 +1,7 @@
 -- What a stretch of ticks does at once. Assumes nothing.
 use mathlib.Core.List.{List}
-use Prim.Native.Nat.{ℕ, _+_, _-_, min}
+use Prim.Native.Nat.{ℕ, _+_, _-_, _^_, _<_, min}
+use lib.ListN.{length, getD}
 use Rattle.std.specs.declared.option.Option.{Option}
 use Rattle.std.specs.declared.option.Option.the-variants.{Some, None}
 use Rattle.tick_machine.specs.declared.packet.Departed.{Departed}
@@ -10,6 +11,7 @@ use Rattle.tick_machine.specs.Round.{round-ticks}
 use Rattle.tick_machine.specs.Sender.{Sender, load, onward, leaving}
 use Rattle.tick_machine.specs.Desk.{depart}
 use Rattle.tick_machine.specs.Machine.{Config, Machine, raise, ticks}
+use Rattle.tick_machine.specs.Law.{On}
 
 -- the machine with its line loaded: a tick is the same with it or without
 abbrev pub loaded : Machine → Machine
@@ -63,3 +65,8 @@ send-bytes k m = record {
   desk = depart (leaver-after (m .clock) k (m .sender .line)) (m .desk);
   bytes = record { accepted = m .bytes .accepted; sent = sent-after k (m .sender .line) (m .bytes .sent); served = m .bytes .served };
 }
+
+-- k bytes more of the packet on the line fit its session's record
+pub record Carries (c : Config) (k : ℕ) (m : Machine) : Type 0 where
+  pub known : On (λ p. p .session < length (c .weights)) (m .sender .line)
+  pub fits : (i : ℕ) → getD (m .bytes .sent) i 0 + k < 2 ^ 64

@@ -3,3 +3,4 @@ pub mod Places
 pub mod Stretch
 pub mod Orderly
 pub mod Shown
+pub mod Promise

@@ -1,17 +1,24 @@
 // How time passes at a link: stretch by stretch, and never tick by tick.
 ghost use mathlib.Core.Path.{_≡_};
 ghost use Prim.Native.Nat.{ℕ, _+_, _-_, _<_, _≤_};
-ghost use Rattle.tick_machine.specs.Life.{on-line};
 ghost use Rattle.tick_machine.specs.Machine.{Config, Machine, ticks};
 ghost use Rattle.link.specs.Stretch.{loaded, reach as reach-of, send-bytes, Carries};
+ghost use Rattle.tick_machine.specs.Life.{told};
+ghost use Rattle.tick_machine.specs.declared.call.Call.the-variants.{MoveTo};
+ghost use Rattle.tick_machine.specs.declared.call.Answer.the-variants.{Moved};
 ghost use Rattle.link.specs.Shown.{Shown, Turns};
+ghost use Rattle.link.specs.Promise.{Keeps};
 use super::Link;
 use crate::session::note_sent;
 use crate::table::place;
 use slot_clock::clock::SlotClock;
 use tick_machine::packet::Departed;
 use tick_machine::packet::Line;
+use tick_machine::refusal::Refusal;
 use waiting_line::line::WaitingLine;
+
+// The end of every clock.
+const LAST_TICK: u64 = 17_592_186_044_416;
 
 impl<W: WaitingLine, S: SlotClock> Link<W, S> {
     // A free line takes the waiting packet of the least stamp. (A packet that waits stands in the table, and is not empty.)
@@ -72,5 +79,22 @@ impl<W: WaitingLine, S: SlotClock> Link<W, S> {
         let _ = self.slots.run(ticks);
         self.clock += ticks;
         self.send(ticks);
+    }
+
+    // Does ticks until the clock is there: how many packets left in it.
+    pub fn move_to(&mut self, tick: u64) -> Result<u64, Refusal>
+        ensures { λ r. ⌜ Keeps (W·WaitingLine .pairs) (W·WaitingLine .capacity) (S·SlotClock .state) (now (self .entry)) (MoveTo tick) (told (Moved tick) r) (now (self .exit)) ⌝ }
+    {
+        if tick < self.clock {
+            return Err(Refusal::TickPassed);
+        }
+        if tick > LAST_TICK {
+            return Err(Refusal::PastTheEnd);
+        }
+        let before = self.left.len();
+        while self.clock < tick {
+            self.stretch(tick);
+        }
+        Ok(self.left.len().saturating_sub(before) as u64)
     }
 }

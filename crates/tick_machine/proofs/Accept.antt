@@ -19,7 +19,7 @@ use Rattle.tick_machine.proofs.Lists.{all-map, all-zip, all-insert, rising-ins
 use Rattle.tick_machine.proofs.Slots.{Fresh}
 use Rattle.tick_machine.proofs.Known.{Known, known-apart, known-more, known-new}
 use Rattle.tick_machine.proofs.OwedSlots.{add-shown}
-use Rattle.tick_machine.proofs.Work.{pending-of, unsent-map, unsent-zip, unsent-insert}
+use Rattle.tick_machine.proofs.Work.{on-zip, pending-of, unsent-map, unsent-zip, unsent-insert}
 use Rattle.tick_machine.proofs.Serving.{upto, upto-all, got-own, got-above}
 use Rattle.tick_machine.proofs.Good.{later, Backlog, Sane, Open, Closed, Stage, Good}
 
@@ -123,6 +123,7 @@ module _ (c : Config) (y : Story) (g : Good c y) (i n tag : ℕ) (weights : All 
         order = rising-insert (λ p. p .stamp) it (s .waiting)
             (all-map (g .sane .waits) (λ p k. known-apart (c .weights) i n low got f (r .next) (omega arith) t (p .stamp) (f .stamp) (k .known)))
             (g .order);
+        first = on-zip (g .sane .on) (g .first) (λ p k h. all-insert (λ q. q .stamp) it (s .waiting) (λ (e : i ≡ p .session). omega (arith, below p k e, f .stamp .0)) h);
         sane = unsent-insert it s (record { some = n-some; short = omega arith; mine = f .stamp .1; known = known-new (c .weights) i n low got f (r .next) i-in′ t (omega arith) (f .stamp .1) }) (unsent-map (g .sane) (λ p k. record { some = k .some; short = omega (arith, k .short); mine = k .mine; known = known-more (c .weights) i n low got f (r .next) (omega arith) i-in′ (p .stamp) (k .known) }));
         small = omega (arith, g .small);
         gone = all-map (g .gone) (λ x h. (h .0, omega (arith, h .1)));

@@ -10,3 +10,11 @@ pub mod Serving
 pub mod Good
 pub mod Tick
 pub mod Accept
+pub mod Figures
+pub mod Level
+pub mod Bound
+pub mod Places
+pub mod Fits
+pub mod Histories
+pub mod Small
+pub mod Stands

@@ -4,3 +4,5 @@ pub mod Tables
 pub mod Loads
 pub mod Sends
 pub mod Spends
+pub mod Reached
+pub mod Moves

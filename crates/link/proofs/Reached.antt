@@ -21,7 +21,7 @@ use Rattle.tick_machine.specs.Life.{last-tick, move, Event, ticked, step, steps
 use Rattle.tick_machine.specs.Law.{On, idle, busy, Unsent, Drafted, Lawful}
 use Rattle.tick_machine.specs.Books.{Owed-by-next, Well-kept, Stays-small, Figures-add-up, Of-every-machine}
 use Rattle.tick_machine.proofs.Lists.{all-map}
-use Rattle.tick_machine.proofs.Good.{unsent-map}
+use Rattle.tick_machine.proofs.Work.{unsent-map}
 use Rattle.tick_machine.proofs.Stands.{law, owed-by-next, is-well-kept, all-stays-small, figures-do-add-up, after-calls}
 use Rattle.link.specs.Orderly.{Apart, Orderly}
 use Rattle.link.proofs.Stretches.{ticks-clock}

@@ -6,3 +6,5 @@ pub mod Sends
 pub mod Spends
 pub mod Reached
 pub mod Moves
+pub mod Admits
+pub mod Arrivals

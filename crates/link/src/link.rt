@@ -34,4 +34,5 @@ pub struct Link<W: WaitingLine, S: SlotClock> {
     ghost busy: { 1 ≤ at-work line },
 }
 
+mod arrivals;
 mod moves;

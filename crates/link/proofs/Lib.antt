@@ -8,3 +8,4 @@ pub mod Reached
 pub mod Moves
 pub mod Admits
 pub mod Arrivals
+pub mod Slips

@@ -5,6 +5,8 @@ use mathlib.Core.List.{List, [], _∷_}
 use Prim.Native.Nat.{ℕ, _+_, _≤_, _<_}
 use lib.IntN.{ℤ, pos, _+ℤ_}
 use lib.Signed.{_<ℤ_}
+use Rattle.std.specs.Options.{mapped}
+use Rattle.std.specs.declared.option.Option.{Option}
 use Rattle.std.specs.declared.result.Result.{Result}
 use Rattle.std.specs.declared.result.Result.the-variants.{Ok, Err}
 use Rattle.waiting_line.specs.declared.pair.Pair.{Pair}
@@ -35,6 +37,10 @@ is-refused (Returned a) = false
 is-refused (FiguresAre f) = false
 is-refused (TotalsAre t) = false
 is-refused (Refused e) = true
+
+-- what is said of a collection
+abbrev pub collected-as : Option Slip → Answer
+collected-as o = Collected (mapped (λ s. s .says) o)
 
 -- the answer to a settlement, which hands the slip back where it is refused
 abbrev pub settled : (ℕ → Answer) → Result ℕ (Refusal × Slip) → Answer

@@ -36,3 +36,4 @@ pub struct Link<W: WaitingLine, S: SlotClock> {
 
 mod arrivals;
 mod moves;
+mod slips;

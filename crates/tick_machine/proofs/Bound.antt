@@ -14,15 +14,15 @@ use Rattle.std.proofs.shelf.Tests.{cases-lt, eq-eqb, eqb-true}
 use Rattle.tick_machine.specs.Lists.{total, only, count, All, Rising}
 use Rattle.tick_machine.specs.Slots.{round-length, owner}
 use Rattle.tick_machine.specs.Round.{Round, granted, stamp, add, round-tick, serve}
-use Rattle.tick_machine.specs.Machine.{Config, Machine, packet, accept}
-use Rattle.tick_machine.specs.Story.{Story, Arrival, accepting}
+use Rattle.tick_machine.specs.Machine.{Config, packet, accept}
+use Rattle.tick_machine.specs.Story.{Story, accepting}
 use Rattle.tick_machine.specs.Law.{quotient-up, Bounded}
-use Rattle.tick_machine.proofs.Lists.{head, tail, only-yes}
+use Rattle.tick_machine.proofs.Lists.{head, only-yes}
 use Rattle.tick_machine.proofs.Counts.{count-mono}
 use Rattle.tick_machine.proofs.Windows.{weight-some, owner-there, rounds, reach}
 use Rattle.tick_machine.proofs.Slots.{Fresh}
 use Rattle.tick_machine.proofs.Known.{times, Known}
-use Rattle.tick_machine.proofs.OwedSlots.{There, least-there, Tidy, shown-tidy}
+use Rattle.tick_machine.proofs.OwedSlots.{There, least-there, Tidy}
 use Rattle.tick_machine.proofs.Serving.{own}
 use Rattle.tick_machine.proofs.Good.{Good, tidy}
 

@@ -5,27 +5,27 @@ use mathlib.Core.Logic.{⊎-elim}
 use Prim.Native.Nat.{ℕ, zero, suc, _+_, _-_, _≤_, _<_, max}
 use native.Mathlib.Omega.{arith}
 use lib.Dec.{eqb}
-use lib.ListN.{length, getD, set, replicate, length-set, length-replicate}
+use lib.ListN.{length, getD, replicate, length-set, length-replicate}
 use lib.Seq.{getD-set-same, getD-set-other}
 use Rattle.std.specs.declared.option.Option.{Option}
 use Rattle.std.specs.declared.option.Option.the-variants.{Some, None}
 use Rattle.std.proofs.shelf.Ways.{tells}
 use Rattle.std.proofs.shelf.Tests.{cases-eq, eq-eqb, ne-eqb}
-use Rattle.tick_machine.specs.Lists.{total, only, All, none, more}
+use Rattle.tick_machine.specs.Lists.{total, only, All}
 use Rattle.tick_machine.specs.Slots.{round-length, owner}
 use Rattle.tick_machine.specs.Round.{Round, owed-to, granted, stamp, serve, served-slot}
-use Rattle.tick_machine.specs.Sender.{Packet, Departed, Line, free, sending, Sender, onward, leaving, byte-of, load, send, sent-off}
+use Rattle.tick_machine.specs.Sender.{Packet, Departed, Line, free, sending, onward, leaving, byte-of, load, send, sent-off}
 use Rattle.tick_machine.specs.Desk.{Desk}
 use Rattle.tick_machine.specs.Machine.{Config, packet, raise, one-more, owner-of}
 use Rattle.tick_machine.specs.Story.{Served, Story, begun, serving, going, accepting, ticking}
-use Rattle.tick_machine.specs.Law.{On, idle, busy, Unsent, served-of, sent-on, sent-of}
+use Rattle.tick_machine.specs.Law.{On, Unsent, served-of, sent-on, sent-of}
 use Rattle.tick_machine.specs.Books.{accepted-of, line-rest, unsent-of, Under-way, Figures-told, Figures-add-up}
-use Rattle.tick_machine.proofs.Lists.{head, all-map, total-insert, total-insert-all, only-yes, only-no, only-at-most}
+use Rattle.tick_machine.proofs.Lists.{head, total-insert, total-insert-all, only-yes, only-no, only-at-most}
 use Rattle.tick_machine.proofs.Windows.{owner-there}
 use Rattle.tick_machine.proofs.Slots.{Fresh}
 use Rattle.tick_machine.proofs.Work.{line, unsent-map}
 use Rattle.tick_machine.proofs.Serving.{own, serve-next, got-own}
-use Rattle.tick_machine.proofs.Good.{Sane, Good, desked, sizes-some}
+use Rattle.tick_machine.proofs.Good.{Good, desked, sizes-some}
 
 -- the figures are what happened, and add up
 pub record Told (c : Config) (y : Story) : Type 0 where
@@ -95,7 +95,7 @@ getD-zeros (suc n) (suc j) = getD-zeros n j
 abbrev gone-of : ℕ → List Departed → ℕ
 gone-of j gone = total (λ (d : Departed). only (eqb (d .packet .session) j) (d .packet .size)) gone
 
-abbrev bytes-of : ℕ → List Packet → ℕ
+abbrev pub bytes-of : ℕ → List Packet → ℕ
 bytes-of j ws = total (λ p. only (eqb (p .session) j) (p .size)) ws
 
 onward-sent : (j tick started n : ℕ) (p : Packet) (gone : List Departed)
@@ -181,12 +181,17 @@ tick-figures c y h g f =
       served-many = one-more-length served-byte (m .bytes .served) ∙ f .served-many;
       next-many = ap length (sym (serve-next os (m .round))) ∙ f .next-many;
       accepted = f .accepted;
-      sent = λ i. omega (arith, one-more-at sent-byte (m .bytes .sent) i sent-range, send-sent i (m .clock) l ws (y .gone) (g .under-way) (sizes-some g), f .sent i);
-      served = λ i. omega (arith, one-more-at served-byte (m .bytes .served) i served-range, serve-counted (c .weights) i (m .clock + 1) os (y .served), f .served i);
-      served-or-owed = λ i. omega (arith, serve-counted (c .weights) i (m .clock + 1) os (y .served), serve-owed (c .weights) i os (m .round), f .served-or-owed i);
+      sent = λ i.
+          omega (arith, one-more-at sent-byte (m .bytes .sent) i sent-range, send-sent i (m .clock) l ws (y .gone) (g .under-way) (sizes-some g), f .sent i);
+      served = λ i.
+          omega (arith, one-more-at served-byte (m .bytes .served) i served-range, serve-counted (c .weights) i (m .clock + 1) os (y .served), f .served i);
+      served-or-owed = λ i.
+          omega (arith, serve-counted (c .weights) i (m .clock + 1) os (y .served), serve-owed (c .weights) i os (m .round), f .served-or-owed i);
       sent-small = λ i. omega (arith, one-more-at sent-byte (m .bytes .sent) i sent-range, at-place-small i sent-byte, f .sent-small i);
       served-small = λ i. omega (arith, one-more-at served-byte (m .bytes .served) i served-range, at-place-small i served-byte, f .served-small i);
-      sent-or-unsent = λ i. omega (arith, send-sent i (m .clock) l ws (y .gone) (g .under-way) (sizes-some g), send-rest i (m .clock) l ws (g .under-way) (sizes-some g), f .sent-or-unsent i);
+      sent-or-unsent = λ i.
+          let sent = send-sent i (m .clock) l ws (y .gone) (g .under-way) (sizes-some g) in
+          omega (arith, sent, send-rest i (m .clock) l ws (g .under-way) (sizes-some g), f .sent-or-unsent i);
     }
 
 pub accept-figures : (c : Config) (y : Story) (i n tag : ℕ) → i < length (c .weights)

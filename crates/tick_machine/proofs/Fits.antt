@@ -1,8 +1,8 @@
 -- Every drafted configuration keeps the limits. Assumes nothing.
-use mathlib.Core.Path.{_≡_, refl, sym, subst}
-use mathlib.Core.List.{List, [], _∷_, _++_}
+use mathlib.Core.Path.{_≡_, refl, subst}
+use mathlib.Core.List.{List, [], _∷_}
 use mathlib.Core.Bool.{Bool, true, false, cond}
-use Prim.Native.Nat.{ℕ, suc, _+_, _≤_}
+use Prim.Native.Nat.{ℕ, _+_, _≤_}
 use native.Mathlib.Omega.{arith}
 use lib.Dec.{ltb, leb}
 use lib.ListN.{length, length-append}
@@ -11,11 +11,10 @@ use Rattle.std.specs.declared.result.Result.the-variants.{Ok, Err}
 use Rattle.std.proofs.shelf.Tests.{and-parts, ltb-true, leb-true}
 use Rattle.tick_machine.specs.declared.refusal.Refusal.{Refusal}
 use Rattle.tick_machine.specs.declared.refusal.Refusal.the-variants.{LinkNumber, Largest, Capacity, FirstWeight, Weight, TooManySessions, TooMuchWeight}
-use Rattle.tick_machine.specs.Lists.{total, All, none, more}
+use Rattle.tick_machine.specs.Lists.{none, more}
 use Rattle.tick_machine.specs.Slots.{round-length}
 use Rattle.tick_machine.specs.Machine.{Config}
 use Rattle.tick_machine.specs.Life.{within, made, adding, with-session, added, drafted}
-use Rattle.tick_machine.specs.Law.{Drafted}
 use Rattle.tick_machine.specs.Fit.{Fit, Drafts-keep-the-limits}
 use Rattle.tick_machine.proofs.Lists.{all-push}
 use Rattle.tick_machine.proofs.Places.{total-push}
@@ -33,9 +32,12 @@ within-parts n x h =
 made-fits : (link largest capacity weight : ℕ) (c : Config) → made link largest capacity weight ≡ Ok c → Fit c
 made-fits link largest capacity weight c h =
     let new : Config = record { link = link; largest = largest; capacity = capacity; weights = weight ∷ [] } in
-    let one = passed (leb link 65535) (cond (within 65535 largest) (cond (within 1024 capacity) (cond (within 4096 weight) (Ok new) (Err FirstWeight)) (Err Capacity)) (Err Largest)) LinkNumber c h in
-    let two = passed (within 65535 largest) (cond (within 1024 capacity) (cond (within 4096 weight) (Ok new) (Err FirstWeight)) (Err Capacity)) Largest c (one .1) in
-    let three = passed (within 1024 capacity) (cond (within 4096 weight) (Ok new) (Err FirstWeight)) Capacity c (two .1) in
+    let at-weight : Result Config Refusal = cond (within 4096 weight) (Ok new) (Err FirstWeight) in
+    let at-capacity : Result Config Refusal = cond (within 1024 capacity) at-weight (Err Capacity) in
+    let at-largest : Result Config Refusal = cond (within 65535 largest) at-capacity (Err Largest) in
+    let one = passed (leb link 65535) at-largest LinkNumber c h in
+    let two = passed (within 65535 largest) at-capacity Largest c (one .1) in
+    let three = passed (within 1024 capacity) at-weight Capacity c (two .1) in
     let four = passed (within 4096 weight) (Ok new) FirstWeight c (three .1) in
     let ok : Ok new ≡ Ok c = four .1 in
     let is : new ≡ c = cc in

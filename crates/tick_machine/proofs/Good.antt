@@ -1,23 +1,23 @@
 -- What the law's induction keeps true of a story. Assumes nothing.
 use mathlib.Core.Path.{_≡_, refl}
-use mathlib.Core.List.{List, [], _∷_}
-use mathlib.Core.Logic.{_⊎_, inl, inr, ⊎-elim}
+use mathlib.Core.List.{List}
+use mathlib.Core.Logic.{_⊎_, inl, inr}
 use Prim.Native.Nat.{ℕ, _+_, _-_, _≤_, _<_}
 use native.Mathlib.Omega.{arith}
 use lib.Dec.{ltb, eqb}
 use lib.ListN.{length, length-replicate}
-use Rattle.tick_machine.specs.Lists.{total, only, All, none, more, Rising}
+use Rattle.tick_machine.specs.Lists.{total, only, All, none, Rising}
 use Rattle.tick_machine.specs.Slots.{owner}
 use Rattle.tick_machine.specs.Sender.{Packet, Departed}
 use Rattle.tick_machine.specs.Desk.{Desk}
 use Rattle.tick_machine.specs.Machine.{Config, with-desk}
 use Rattle.tick_machine.specs.Story.{Served, Story, begun}
-use Rattle.tick_machine.specs.Law.{On, idle, busy, Unsent, Ever, Prompt, Timely}
+use Rattle.tick_machine.specs.Law.{On, idle, Unsent, Prompt, Timely}
 use Rattle.tick_machine.specs.Books.{Same-work, Owed-by-next, Under-way}
 use Rattle.tick_machine.proofs.Lists.{all-map}
 use Rattle.tick_machine.proofs.Known.{times, Known}
 use Rattle.tick_machine.proofs.OwedSlots.{Tidy, shown-tidy, shown-fresh}
-use Rattle.tick_machine.proofs.Work.{due, pending-of, unsent-map}
+use Rattle.tick_machine.proofs.Work.{pending-of, unsent-map}
 use Rattle.tick_machine.proofs.Serving.{upto, own, own-above}
 
 -- the bytes of the waiting packets of session i with stamps above s

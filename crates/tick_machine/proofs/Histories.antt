@@ -1,7 +1,7 @@
 -- What happens at a machine by calls was allowed when it happened. Assumes nothing.
 use mathlib.Core.Path.{_≡_, refl, sym, ap, subst, _∙_}
 use mathlib.Core.List.{List, [], _∷_, _++_}
-use mathlib.Core.Bool.{Bool, true, cond}
+use mathlib.Core.Bool.{true, cond}
 use Prim.Native.Nat.{ℕ, zero, suc, _+_, _-_, _≤_, _<_}
 use native.Mathlib.Omega.{arith}
 use lib.Dec.{ltb, leb, eqb}
@@ -18,7 +18,7 @@ use Rattle.tick_machine.specs.Desk.{among}
 use Rattle.tick_machine.specs.Machine.{Config, Machine, ticks}
 use Rattle.tick_machine.specs.Life.{last-tick, unsettled, offer, arrival, move, settlement, Event, accepted, ticked, collected, filed, returned, step, steps, if-granted, happens, after, events}
 use Rattle.tick_machine.specs.Story.{Story, telling, story}
-use Rattle.tick_machine.specs.Law.{Drafted, In-every-history}
+use Rattle.tick_machine.specs.Law.{In-every-history}
 use Rattle.tick_machine.specs.Books.{The-story-tells-the-calls}
 use Rattle.tick_machine.specs.Fit.{Fit}
 use Rattle.tick_machine.proofs.Fits.{passed, drafted-fits}

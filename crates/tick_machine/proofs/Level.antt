@@ -7,22 +7,19 @@ use native.Mathlib.Omega.{arith}
 use lib.Dec.{eqb}
 use Rattle.std.proofs.shelf.Ways.{tells}
 use Rattle.std.proofs.shelf.Tests.{cases-eq, ne-eqb}
-use Rattle.tick_machine.specs.Lists.{total, only, All, more, Rising}
+use Rattle.tick_machine.specs.Lists.{All, more, Rising}
 use Rattle.tick_machine.specs.Slots.{owner}
-use Rattle.tick_machine.specs.Sender.{Packet, Line, free, sending, Sender}
+use Rattle.tick_machine.specs.Sender.{Packet, Line, free, sending}
 use Rattle.tick_machine.specs.Machine.{Config}
 use Rattle.tick_machine.specs.Story.{Story}
-use Rattle.tick_machine.specs.Law.{On, Unsent, Level}
+use Rattle.tick_machine.specs.Law.{On, Level}
 use Rattle.tick_machine.specs.Books.{line-bytes, line-rest, Under-way}
 use Rattle.tick_machine.proofs.Lists.{all-map, all-zip, only-no, only-at-most}
 use Rattle.tick_machine.proofs.Known.{times}
 use Rattle.tick_machine.proofs.Work.{line, due, pending, live}
 use Rattle.tick_machine.proofs.Serving.{own, own-above}
-use Rattle.tick_machine.proofs.Figures.{Told}
+use Rattle.tick_machine.proofs.Figures.{Told, bytes-of}
 use Rattle.tick_machine.proofs.Good.{First, later, Sane, Open, Closed, Stage, Good, sizes-some}
-
-abbrev bytes-of : ℕ → List Packet → ℕ
-bytes-of i ws = total (λ p. only (eqb (p .session) i) (p .size)) ws
 
 -- the slots of session i above s, and s itself if it is owed
 own-split : (ws : List ℕ) (i s : ℕ) → owner ws s ≡ i → (os : List ℕ) → own-above ws i s os + times s os ≤ own ws i os

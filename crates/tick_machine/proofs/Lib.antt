@@ -16,5 +16,7 @@ pub mod Bound
 pub mod Places
 pub mod Fits
 pub mod Histories
+pub mod Placed
 pub mod Small
 pub mod Stands
+pub mod Sharp

@@ -54,7 +54,8 @@ total-insert-all f (q ∷ qs) os = omega (arith, total-insert (λ s. s) f q (ins
 pub length-insert : {X : Type 0} (key : X → ℕ) (x : X) (xs : List X) → length (insert key x xs) ≡ suc (length xs)
 length-insert key x [] = refl
 length-insert key x (y ∷ ys) =
-    cond-both (ltb (key x) (key y)) (x ∷ y ∷ ys) (y ∷ insert key x ys) (λ zs. length zs ≡ suc (length (y ∷ ys))) (λ _. refl) (λ _. omega (arith, length-insert key x ys))
+    cond-both (ltb (key x) (key y)) (x ∷ y ∷ ys) (y ∷ insert key x ys) (λ zs. length zs ≡ suc (length (y ∷ ys)))
+    (λ _. refl) (λ _. omega (arith, length-insert key x ys))
 
 pub length-insert-all : (qs os : List ℕ) → length (insert-all qs os) ≡ length qs + length os
 length-insert-all [] os = omega arith

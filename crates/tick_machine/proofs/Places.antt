@@ -1,22 +1,21 @@
 -- Every accepted packet is in one place, and its number is held once. Assumes nothing.
 use mathlib.Core.Path.{_≡_, refl, sym, ap, _∙_}
 use mathlib.Core.List.{List, [], _∷_, _++_}
-use mathlib.Core.Bool.{Bool, true, false, _||_}
+use mathlib.Core.Bool.{true, false, _||_}
 use mathlib.Core.Logic.{⊎-elim}
-use Prim.Native.Nat.{ℕ, zero, suc, _+_, _-_, _*_, _≤_, _<_}
+use Prim.Native.Nat.{ℕ, zero, suc, _+_, _-_, _≤_}
 use native.Mathlib.Omega.{arith}
-use lib.Dec.{eqb, ltb}
+use lib.Dec.{eqb}
 use lib.ListN.{length, length-append}
 use Rattle.std.specs.declared.option.Option.{Option}
 use Rattle.std.specs.declared.option.Option.the-variants.{Some, None}
-use Rattle.std.proofs.shelf.Ways.{tells}
 use Rattle.std.proofs.shelf.Tests.{eqb-true, cond-true, cond-false, cases-bool, false≢true}
-use Rattle.tick_machine.specs.Lists.{total, only, All, none, more, insert}
-use Rattle.tick_machine.specs.Sender.{Packet, Departed, Line, free, sending, Sender, onward, leaving, send, sent-off}
-use Rattle.tick_machine.specs.Desk.{Desk, joined, rest, handed, hand-out, among, without}
+use Rattle.tick_machine.specs.Lists.{total, none}
+use Rattle.tick_machine.specs.Sender.{Packet, Departed, Line, free, sending, onward, leaving, send, sent-off}
+use Rattle.tick_machine.specs.Desk.{joined, rest, handed, hand-out, among, without}
 use Rattle.tick_machine.specs.Machine.{Config, Machine, packet, accept, tick, with-desk}
 use Rattle.tick_machine.specs.Life.{on-line, unsettled}
-use Rattle.tick_machine.specs.Books.{over, over-line, holds}
+use Rattle.tick_machine.specs.Books.{over, over-line}
 use Rattle.tick_machine.proofs.Lists.{total-insert}
 
 pub total-push : {X : Type 0} (f : X → ℕ) (xs : List X) (x : X) → total f (xs ++ x ∷ []) ≡ total f xs + f x

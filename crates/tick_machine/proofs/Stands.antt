@@ -1,26 +1,26 @@
 -- Everything that stays true of a story, in one induction over what happens. Assumes nothing.
-use mathlib.Core.Path.{_≡_, refl, sym, subst}
+use mathlib.Core.Path.{refl, subst}
 use mathlib.Core.List.{List, [], _∷_}
-use Prim.Native.Nat.{ℕ, max}
+use Prim.Native.Nat.{max}
 use lib.ListN.{getD}
 use Rattle.tick_machine.specs.declared.call.Call.{Call}
 use Rattle.tick_machine.specs.Lists.{All, none, more}
-use Rattle.tick_machine.specs.Round.{granted}
 use Rattle.tick_machine.specs.Desk.{Desk, hand-out, file, return}
-use Rattle.tick_machine.specs.Machine.{Config, Machine, opened}
+use Rattle.tick_machine.specs.Machine.{Config, Machine}
 use Rattle.tick_machine.specs.Life.{Event, accepted, ticked, collected, filed, returned, after, events}
-use Rattle.tick_machine.specs.Story.{Story, begun, accepting, ticking, telling, story}
+use Rattle.tick_machine.specs.Story.{Story, telling, story}
 use Rattle.tick_machine.specs.Law.{Bounded, Law, Drafted, In-every-history}
 use Rattle.tick_machine.specs.Fit.{Fit}
 use Rattle.tick_machine.specs.Books.{Same-work, Owed-by-next, Figures-told, Figures-add-up, Totals-add-up, Well-kept, Stays-small, Of-every-machine}
-use Rattle.tick_machine.proofs.Slots.{Fresh, fresh}
+use Rattle.tick_machine.proofs.Slots.{fresh}
 use Rattle.tick_machine.proofs.Good.{Good, begun-good, desked, desk-good}
 use Rattle.tick_machine.proofs.Tick.{tick-good}
 use Rattle.tick_machine.proofs.Accept.{accept-good}
 use Rattle.tick_machine.proofs.Figures.{Told, begun-figures, tick-figures, accept-figures, desk-figures, figures-told, figures-add-up}
 use Rattle.tick_machine.proofs.Level.{stays-level}
 use Rattle.tick_machine.proofs.Bound.{accept-bounded}
-use Rattle.tick_machine.proofs.Small.{fit-round, Placed, opened-placed, tick-placed, accept-placed, collect-placed, file-placed, return-placed, totals-add-up, well-kept, stays-small}
+use Rattle.tick_machine.proofs.Placed.{fit-round, Placed, opened-placed, tick-placed, accept-placed, collect-placed, file-placed, return-placed}
+use Rattle.tick_machine.proofs.Small.{totals-add-up, well-kept, stays-small}
 use Rattle.tick_machine.proofs.Histories.{Allowed, All-allowed, story-tells, in-every-history}
 
 pub record Stands (c : Config) (y : Story) : Type 0 where

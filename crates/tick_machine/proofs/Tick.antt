@@ -1,23 +1,23 @@
 -- A tick keeps what the law's induction keeps. Assumes nothing.
-use mathlib.Core.Path.{_≡_, refl, sym, ap, subst, _∙_}
+use mathlib.Core.Path.{_≡_, sym, ap, subst, _∙_}
 use mathlib.Core.List.{List, [], _∷_}
 use mathlib.Core.Logic.{_⊎_, inl, inr, ⊎-elim}
 use Prim.Native.Nat.{ℕ, _+_, _-_, _≤_, _<_}
 use native.Mathlib.Omega.{arith}
 use lib.Dec.{leb, eqb}
 use lib.ListN.{length}
-use Rattle.tick_machine.specs.Lists.{only, All, none, more, Rising}
+use Rattle.tick_machine.specs.Lists.{only, All, Rising}
 use Rattle.tick_machine.specs.Slots.{owner}
-use Rattle.tick_machine.specs.Round.{Round, serve, round-tick, served-slot}
-use Rattle.tick_machine.specs.Sender.{Packet, Departed, Line, free, sending, Sender, send}
+use Rattle.tick_machine.specs.Round.{serve}
+use Rattle.tick_machine.specs.Sender.{Packet, Line, free, sending, send}
 use Rattle.tick_machine.specs.Machine.{Config}
-use Rattle.tick_machine.specs.Story.{Served, Story, serving, ticking}
-use Rattle.tick_machine.specs.Law.{On, idle, Unsent, Ever}
+use Rattle.tick_machine.specs.Story.{Served, Story, ticking}
+use Rattle.tick_machine.specs.Law.{On, idle, Unsent}
 use Rattle.tick_machine.proofs.Lists.{all-map, all-zip, only-at-most}
-use Rattle.tick_machine.proofs.OwedSlots.{Tidy, tick-shown}
+use Rattle.tick_machine.proofs.OwedSlots.{tick-shown}
 use Rattle.tick_machine.proofs.Work.{line, onward-on, pending-of, unsent-map, unsent-zip, send-pending, send-work, send-unsent, send-gone, send-waiting, send-under-way, live}
 use Rattle.tick_machine.proofs.Serving.{serve-total, serve-length, serve-served, serve-cursor, serve-past, serve-next, Still, Done, serve-open}
-use Rattle.tick_machine.proofs.Good.{First, later, Backlog, Sane, Open, Closed, Stage, Good, tidy, sizes, sizes-some}
+use Rattle.tick_machine.proofs.Good.{First, later, Backlog, Sane, Stage, Good, tidy, sizes, sizes-some}
 
 send-later : (i s clock : ℕ) (l : Line) (ws : List Packet) → later i s (send clock l ws .waiting) ≤ later i s ws
 send-later i s clock l ws = send-waiting (λ vs. later i s vs ≤ later i s ws) clock l ws (omega arith) (λ p vs h. omega arith)

@@ -1,27 +1,26 @@
 -- What stays true beside the law: the same work, the figures and totals as what happened, numbers held once, and everything small.
 -- Assumes nothing.
 use mathlib.Core.Path.{_≡_}
-use mathlib.Core.List.{List, [], _∷_}
+use mathlib.Core.List.{List}
 use Prim.Native.Nat.{ℕ, _+_, _*_, _≤_, _<_}
 use lib.Dec.{eqb, ltb}
 use lib.ListN.{length, getD}
 use Rattle.tick_machine.specs.declared.call.Call.{Call}
-use Rattle.tick_machine.specs.Lists.{total, only, All, Rising}
+use Rattle.tick_machine.specs.Lists.{total, only, Rising}
 use Rattle.tick_machine.specs.Slots.{round-length}
-use Rattle.tick_machine.specs.Round.{Round, owed-to}
+use Rattle.tick_machine.specs.Round.{owed-to}
 use Rattle.tick_machine.specs.Owed.{shown-round}
 use Rattle.tick_machine.specs.Sender.{Packet, Departed, Line, free, sending, Sender}
-use Rattle.tick_machine.specs.Desk.{Desk}
-use Rattle.tick_machine.specs.Machine.{Config, Bytes, Machine}
+use Rattle.tick_machine.specs.Machine.{Config, Machine}
 use Rattle.tick_machine.specs.Life.{last-tick, on-line, unsettled, events, after}
 use Rattle.tick_machine.specs.Story.{Arrival, Story, story}
-use Rattle.tick_machine.specs.Law.{On, Unsent, served-of, sent-of, In-every-history}
+use Rattle.tick_machine.specs.Law.{Unsent, served-of, sent-of, In-every-history}
 
 -- the machine of the story is the machine of the calls
 abbrev pub The-story-tells-the-calls : Type 0
 The-story-tells-the-calls = (c : Config) (calls : List Call) → story c (events c calls) .machine ≡ after c calls
 
--- the bytes left on the line, and all bytes that are unsent
+-- the bytes left on the line, and the bytes of the waiting packets
 abbrev pub line-bytes : Line → ℕ
 line-bytes free = 0
 line-bytes (sending p started n) = n
@@ -115,7 +114,7 @@ pub record Stays-small (c : Config) (m : Machine) : Type 0 where
   pub accepted : (i : ℕ) → getD (m .bytes .accepted) i 0 ≤ m .clock + 67107840
   pub sent : (i : ℕ) → getD (m .bytes .sent) i 0 ≤ m .clock
   pub served : (i : ℕ) → getD (m .bytes .served) i 0 ≤ m .clock
-  -- so no slot comes near 2 to the 57th
+  -- so every slot that a session ever got is below 2 to the 57th
   pub cursor-limit : m .round .cursor ≤ 72057594037927936
   pub next-limit : (i : ℕ) → getD (m .round .next) i 0 < 144115188075855872
 

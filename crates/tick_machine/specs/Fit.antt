@@ -1,5 +1,5 @@
 -- The limits of a configuration. Assumes nothing.
-use Prim.Native.Nat.{ℕ, _≤_}
+use Prim.Native.Nat.{_≤_}
 use lib.ListN.{length}
 use Rattle.tick_machine.specs.Lists.{All}
 use Rattle.tick_machine.specs.Slots.{round-length}

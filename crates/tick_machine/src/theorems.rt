@@ -1,6 +1,10 @@
 // The theorems. Each function carries one in its contract; none of them computes anything.
+ghost use mathlib.Core.List.{List};
+ghost use Rattle.tick_machine.specs.declared.call.Call.{Call};
 ghost use Rattle.tick_machine.specs.Slots.{Each-position-has-one-owner, Each-session-owns-its-weight};
-ghost use Rattle.tick_machine.specs.Law.{Law, In-every-history};
+ghost use Rattle.tick_machine.specs.Machine.{Config};
+ghost use Rattle.tick_machine.specs.Law.{Law, Drafted, In-every-history, Lawful};
+ghost use Rattle.tick_machine.specs.Sharp.{Bounds-are-reached};
 ghost use Rattle.tick_machine.specs.Fit.{Drafts-keep-the-limits};
 ghost use Rattle.tick_machine.specs.Books.{The-story-tells-the-calls, Same-work, Owed-by-next, Figures-told, Figures-add-up, Totals-add-up, Well-kept, Stays-small, Of-every-machine};
 
@@ -24,6 +28,13 @@ pub fn limits_stand() -> u8
 // tick is bounded by the bytes its session was owed.
 pub fn law_stands() -> u8
     ensures { λ _. ⌜ In-every-history Law ⌝ }
+{
+    0
+}
+
+// No bound of the law can be made smaller: runs reach each of them.
+pub fn bounds_are_reached() -> u8
+    ensures { λ _. ⌜ Bounds-are-reached ⌝ }
 {
     0
 }
@@ -75,5 +86,20 @@ pub fn numbers_stand() -> u8
 pub fn sizes_stand() -> u8
     ensures { λ _. ⌜ Of-every-machine Stays-small ⌝ }
 {
+    0
+}
+
+// What a reader of the rules asks of every history, in one place: the law, told of the machine that the calls lead to, with figures and totals
+// that are what happened.
+pub fn every_history_is_lawful() -> u8
+    ensures { λ _. ⌜ ((c : Config) → Drafted c → (calls : List Call) → Lawful c calls) ⌝ }
+    ensures { λ _. ⌜ The-story-tells-the-calls ⌝ }
+    ensures { λ _. ⌜ In-every-history Figures-told ⌝ }
+    ensures { λ _. ⌜ Of-every-machine Totals-add-up ⌝ }
+{
+    let _ = law_stands();
+    let _ = story_stands();
+    let _ = figures_stand();
+    let _ = totals_stand();
     0
 }

@@ -1,0 +1,14 @@
+pub mod Sessions
+pub mod Stretches
+pub mod Tables
+pub mod Loads
+pub mod Sends
+pub mod Spends
+pub mod Reached
+pub mod Moves
+pub mod Admits
+pub mod Arrivals
+pub mod Slips
+pub mod Readings
+pub mod Drafts
+pub mod Openings

@@ -1,0 +1,10 @@
+pub mod Busy
+pub mod Places
+pub mod Stretch
+pub mod Orderly
+pub mod Admission
+pub mod Shown
+pub mod Opened
+pub mod Promise
+pub mod Making
+pub mod Drafting

@@ -23,10 +23,7 @@ use Rattle.link.specs.declared.draft.Draft.{Draft}
 use Rattle.link.specs.declared.link.Link.{Link}
 use Rattle.link.specs.Opened.{Opened}
 use Rattle.link.specs.Drafting.{Drafts, Opens}
-
-none-there : {X : Type 0} (xs : List X) → length xs ≡ 0 → xs ≡ []
-none-there [] h = refl
-none-there (x ∷ xs) h = absurd (omega arith)
+use Rattle.link.proofs.Tables.{none-there}
 
 map-replicate : (f : Session → ℕ) (n : ℕ) (x : Session) → map f (replicate n x) ≡ replicate n (f x)
 map-replicate f zero x = refl

@@ -30,6 +30,7 @@ use Rattle.link.specs.declared.slip.Slip.{Slip}
 use Rattle.link.specs.Places.{At, Nowhere, itself}
 use Rattle.link.specs.Shown.{Shown}
 use Rattle.link.specs.Promise.{collected-as, settled, Led, Goes}
+use Rattle.link.proofs.Tables.{none-there}
 use Rattle.link.proofs.Reached.{lawful, reached-small}
 
 -- what stands somewhere is among them, and is taken out there
@@ -62,10 +63,6 @@ pub is-out : (c : Config) (link k : ℕ) (m : Machine) → link ≡ c .link → 
 is-out c link k m e a = cond-true (eqb link (c .link)) _ _ (eq-eqb _ _ e) ∙ cond-true (among k (m .desk .out)) _ _ a
 
 -- the first of the left list
-none-left : (ds : List Departed) → length ds ≡ 0 → ds ≡ []
-none-left [] h = refl
-none-left (d ∷ ds) h = absurd (omega arith)
-
 record First (ds : List Departed) (d : Departed) : Type 0 where
   first-is : first ds ≡ Some d
   rest-is : removed ds 0 ≡ rest ds
@@ -107,7 +104,7 @@ module _ {W S : Type 0} {pairs : W → List Pair} {capacity : W → ℕ} {state 
   none-collected e =
       let s = h .shown in
       let d = after c calls .desk in
-      let z : d .left ≡ [] = none-left (d .left) (ap length (sym (s .left-is)) ∙ sym (l .left .ok .0) ∙ e) in
+      let z : d .left ≡ [] = none-there (d .left) (ap length (sym (s .left-is)) ∙ sym (l .left .ok .0) ∙ e) in
       record {
         led = record { drafted = h .drafted; shown = desk-shown hand-out l (s .left-is ∙ z ∙ ap rest (sym z)) (s .out-is ∙ ap (λ x. handed x (d .out)) (sym z)) (s .filed-is) (s .returned-is) refl refl refl refl refl refl refl refl refl };
         told = ap (λ x. Collected (slip-of (c .link) (first x))) (sym z);

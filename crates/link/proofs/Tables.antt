@@ -10,7 +10,7 @@ use Rattle.std.proofs.shelf.Tests.{cond-both, cond-true, cond-false, lt-ltb, le
 use Rattle.std.specs.Holes.{removed}
 use Rattle.tick_machine.specs.declared.packet.Packet.{Packet}
 use Rattle.tick_machine.specs.Lists.{total, All, none, more, insert}
-use Rattle.tick_machine.proofs.Lists.{head, tail, all-insert, total-insert}
+use Rattle.tick_machine.proofs.Lists.{head, tail, all-insert, total-insert, length-insert}
 use Rattle.link.specs.Places.{packet-number, At, Nowhere}
 use Rattle.link.specs.Shown.{by-number}
 
@@ -25,13 +25,14 @@ pub total-by-number : (f : Packet → ℕ) (ws : List Packet) → total f (by-nu
 total-by-number f [] = refl
 total-by-number f (p ∷ ws) = total-insert number f p (by-number ws) ∙ ap (λ n. f p + n) (total-by-number f ws)
 
-insert-length : (p : Packet) (xs : List Packet) → length (insert number p xs) ≡ suc (length xs)
-insert-length p [] = refl
-insert-length p (x ∷ xs) = cond-both (ltb (number p) (number x)) (p ∷ x ∷ xs) (x ∷ insert number p xs) (λ ys. length ys ≡ suc (suc (length xs))) (λ _. refl) (λ _. ap suc (insert-length p xs))
+-- a list of no entries
+pub none-there : {X : Type 0} (xs : List X) → length xs ≡ 0 → xs ≡ []
+none-there [] h = refl
+none-there (x ∷ xs) h = absurd (omega arith)
 
 pub by-number-length : (ws : List Packet) → length (by-number ws) ≡ length ws
 by-number-length [] = refl
-by-number-length (p ∷ ws) = insert-length p (by-number ws) ∙ ap suc (by-number-length ws)
+by-number-length (p ∷ ws) = length-insert number p (by-number ws) ∙ ap suc (by-number-length ws)
 
 -- the highest number goes to the end
 insert-last : (p : Packet) (xs : List Packet) → All (λ q. q .number < p .number) xs → insert number p xs ≡ xs ++ p ∷ []

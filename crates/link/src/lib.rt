@@ -3,6 +3,7 @@ pub mod slip;
 pub mod session;
 mod refusal;
 mod table;
+mod limits;
 pub mod error;
 pub mod link;
 pub mod draft;

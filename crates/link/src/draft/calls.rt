@@ -9,17 +9,15 @@ use crate::error::MakeError;
 use crate::error::MakeErrorFromAlloc;
 use crate::error::MakeErrorFromLine;
 use crate::error::MakeErrorFromRefusal;
+use crate::limits::HEAVIEST;
+use crate::limits::SESSIONS;
+use crate::limits::UNSETTLED;
 use crate::link::Link;
 use crate::session::Session;
 use slot_clock::clock::SlotClock;
 use std::alloc::Global;
 use tick_machine::refusal::Refusal;
 use waiting_line::line::WaitingLine;
-
-// How many sessions a link may have, what their weights may sum up to, and how many packets may be unsettled.
-const SESSIONS: usize = 64;
-const HEAVIEST: u64 = 4096;
-const UNSETTLED: usize = 1024;
 
 // The checks of a making, in their order.
 fn check(number: u64, largest: u64, capacity: u64, weight: u64) -> Result<(), Refusal>

@@ -10,29 +10,22 @@ ghost use Rattle.link.specs.Admission.{admission};
 ghost use Rattle.link.specs.Shown.{Shown};
 ghost use Rattle.link.specs.Promise.{Keeps};
 use super::Link;
+use crate::limits::UNSETTLED;
 use crate::refusal::nearest;
 use crate::session::note_accepted;
 use slot_clock::clock::SlotClock;
-use tick_machine::packet::Line;
 use tick_machine::packet::Packet;
 use tick_machine::refusal::Refusal;
 use tick_machine::refusal::RefusalFromLine;
 use waiting_line::line::WaitingLine;
 use waiting_line::pair::Pair;
 
-// How many packets may be unsettled.
-const UNSETTLED: usize = 1024;
-
 impl<W: WaitingLine, S: SlotClock> Link<W, S> {
     // How many packets are unsettled: waiting, sending, left or out.
     fn unsettled(&self) -> usize
         ensures { λ r. ⌜ r ≡ vec-len (now (self .entry) .table) + on-line (now (self .entry) .line) + vec-len (now (self .entry) .left) + vec-len (now (self .entry) .out) ⌝ }
     {
-        let sending = match self.line {
-            Line::Free => 0,
-            Line::Sending(_, _, _) => 1,
-        };
-        self.table.len() + sending + self.left.len() + self.out.len()
+        self.table.len() + self.sending() as usize + self.left.len() + self.out.len()
     }
 
     // The checks of an arrival, in their order.

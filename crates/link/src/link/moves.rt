@@ -9,6 +9,7 @@ ghost use Rattle.tick_machine.specs.declared.call.Answer.the-variants.{Moved};
 ghost use Rattle.link.specs.Shown.{Shown, Turns};
 ghost use Rattle.link.specs.Promise.{Keeps};
 use super::Link;
+use crate::limits::LAST_TICK;
 use crate::session::note_sent;
 use crate::table::place;
 use slot_clock::clock::SlotClock;
@@ -16,9 +17,6 @@ use tick_machine::packet::Departed;
 use tick_machine::packet::Line;
 use tick_machine::refusal::Refusal;
 use waiting_line::line::WaitingLine;
-
-// The end of every clock.
-const LAST_TICK: u64 = 17_592_186_044_416;
 
 impl<W: WaitingLine, S: SlotClock> Link<W, S> {
     // A free line takes the waiting packet of the least stamp. (A packet that waits stands in the table, and is not empty.)

@@ -41,7 +41,7 @@ fn lead_of(sent: u64, served: u64) -> i64
 
 impl<W: WaitingLine, S: SlotClock> Link<W, S> {
     // How many packets are on the line.
-    fn sending(&self) -> u64
+    pub(super) fn sending(&self) -> u64
         ensures { λ r. ⌜ r ≡ on-line (now (self .entry) .line) ⌝ }
     {
         match self.line {

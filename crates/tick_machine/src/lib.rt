@@ -3,3 +3,4 @@
 pub mod packet;
 pub mod refusal;
 pub mod call;
+pub mod theorems;

@@ -1,0 +1,5 @@
+pub mod Lists
+pub mod Counts
+pub mod Ownership
+pub mod Windows
+pub mod Slots

@@ -3,3 +3,10 @@ pub mod Counts
 pub mod Ownership
 pub mod Windows
 pub mod Slots
+pub mod Known
+pub mod OwedSlots
+pub mod Work
+pub mod Serving
+pub mod Good
+pub mod Tick
+pub mod Accept

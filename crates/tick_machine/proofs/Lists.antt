@@ -2,12 +2,13 @@
 use mathlib.Core.Path.{_≡_, refl}
 use mathlib.Core.List.{List, [], _∷_}
 use mathlib.Core.Bool.{Bool, true, false}
-use Prim.Native.Nat.{ℕ, _+_, _≤_}
+use Prim.Native.Nat.{ℕ, suc, _+_, _≤_}
 use native.Mathlib.Omega.{arith}
 use lib.Dec.{ltb, eqb}
+use lib.ListN.{length}
 use Rattle.std.proofs.shelf.Ways.{tells}
 use Rattle.std.proofs.shelf.Tests.{ltb-true, ltb-false, cond-both, cond-true, cond-false}
-use Rattle.tick_machine.specs.Lists.{total, only, count, All, none, more, Rising, insert, insert-all, final}
+use Rattle.tick_machine.specs.Lists.{total, only, All, none, more, Rising, insert, insert-all, final}
 
 module _ {X : Type 0} where
   pub head : {P : X → Type 0} {x : X} {xs : List X} → All P (x ∷ xs) → P x
@@ -45,6 +46,15 @@ module _ {X : Type 0} where
 pub total-insert-all : (f : ℕ → ℕ) (qs os : List ℕ) → total f (insert-all qs os) ≡ total f qs + total f os
 total-insert-all f [] os = omega arith
 total-insert-all f (q ∷ qs) os = omega (arith, total-insert (λ s. s) f q (insert-all qs os), total-insert-all f qs os)
+
+pub length-insert : {X : Type 0} (key : X → ℕ) (x : X) (xs : List X) → length (insert key x xs) ≡ suc (length xs)
+length-insert key x [] = refl
+length-insert key x (y ∷ ys) =
+    cond-both (ltb (key x) (key y)) (x ∷ y ∷ ys) (y ∷ insert key x ys) (λ zs. length zs ≡ suc (length (y ∷ ys))) (λ _. refl) (λ _. omega (arith, length-insert key x ys))
+
+pub length-insert-all : (qs os : List ℕ) → length (insert-all qs os) ≡ length qs + length os
+length-insert-all [] os = omega arith
+length-insert-all (q ∷ qs) os = omega (arith, length-insert (λ s. s) q (insert-all qs os), length-insert-all qs os)
 
 pub all-insert-all : {P : ℕ → Type 0} (qs os : List ℕ) → All P qs → All P os → All P (insert-all qs os)
 all-insert-all [] os h k = k

@@ -10,3 +10,5 @@ pub mod Life
 pub mod Values
 pub mod Story
 pub mod Law
+pub mod Fit
+pub mod Books

@@ -1,4 +1,4 @@
--- The round server told by few numbers: V and, for each session, one more than the highest slot that it ever got. Assumes nothing.
+-- The owed slots, told by the cursor and the sessions' next slots alone. Assumes nothing.
 use mathlib.Core.List.{List, [], _∷_}
 use mathlib.Core.Bool.{Bool, cond}
 use Prim.Native.Nat.{ℕ, zero, suc, _-_, max}
@@ -17,11 +17,14 @@ abbrev pub kept : (ℕ → Bool) → List ℕ → List ℕ
 kept test [] = []
 kept test (q ∷ qs) = cond (test q) (q ∷ kept test qs) (kept test qs)
 
--- the greatest of the numbers, 0 if there is none
 abbrev pub greatest : List ℕ → ℕ
 greatest [] = 0
 greatest (n ∷ ns) = max n (greatest ns)
 
--- every slot from V on that is below its owner's next is owed, and no other
+-- the slots from v on that are below their owner's next, in rising order
+abbrev pub owed-slots : List ℕ → ℕ → List ℕ → List ℕ
+owed-slots ws v next = kept (λ q. ltb q (getD next (owner ws q) 0)) (from v (greatest next - v))
+
+-- the round server with the cursor v and these nexts: each slot from v on that is below its owner's next is owed
 abbrev pub shown-round : List ℕ → ℕ → List ℕ → Round
-shown-round ws v next = record { cursor = v; owed = kept (λ q. ltb q (getD next (owner ws q) 0)) (from v (greatest next - v)); next = next }
+shown-round ws v next = record { cursor = v; owed = owed-slots ws v next; next = next }

@@ -2,3 +2,4 @@ pub mod Refusals
 pub mod State
 pub mod Calls
 pub mod Layout
+pub mod Walk

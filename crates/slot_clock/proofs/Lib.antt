@@ -3,3 +3,7 @@ pub mod Blocks
 pub mod Walks
 pub mod Rounds
 pub mod Reaches
+pub mod Sound
+pub mod Holding
+pub mod Making
+pub mod Masks

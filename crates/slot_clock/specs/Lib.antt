@@ -3,3 +3,4 @@ pub mod State
 pub mod Calls
 pub mod Layout
 pub mod Walk
+pub mod Held

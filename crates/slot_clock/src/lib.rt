@@ -2,3 +2,6 @@
 pub mod refusal;
 pub mod clock;
 pub mod layout;
+pub mod mask;
+pub mod held;
+pub mod calls;

@@ -7,3 +7,4 @@ pub mod Sound
 pub mod Holding
 pub mod Making
 pub mod Masks
+pub mod Steps

@@ -5,3 +5,4 @@ pub mod layout;
 pub mod mask;
 pub mod held;
 pub mod calls;
+pub mod step;

@@ -8,3 +8,4 @@ pub mod Holding
 pub mod Making
 pub mod Masks
 pub mod Steps
+pub mod Servers

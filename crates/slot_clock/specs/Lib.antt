@@ -4,3 +4,4 @@ pub mod Calls
 pub mod Layout
 pub mod Walk
 pub mod Held
+pub mod Theorems

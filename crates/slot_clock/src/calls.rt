@@ -8,7 +8,6 @@ ghost use lib.ListN.{length, getD, take};
 ghost use Rattle.std.specs.Results.{Cases};
 ghost use Rattle.std.specs.declared.option.Option.the-variants.{Some, None};
 ghost use Rattle.std.specs.declared.result.Result.the-variants.{Ok, Err};
-ghost use Rattle.slot_clock.specs.declared.refusal.ClockRefusal.the-variants.{TicksPastEnd};
 ghost use Rattle.tick_machine.specs.Lists.{final};
 ghost use Rattle.tick_machine.specs.Slots.{round-length, own-slots};
 ghost use Rattle.slot_clock.specs.Calls.{no-zero, made-answer, made-state, add-answer, add-after, run-answer, run-after, owed-answer};
@@ -100,7 +99,7 @@ impl Held {
 
     // Whether so many ticks may be run.
     pub fn lasts(&self, ticks: u64) -> Result<(), ClockRefusal>
-        ensures { λ r. ⌜ Cases r (λ _. now (self .entry) .ticks + ticks ≤ 17592186044416) (λ e. (e ≡ TicksPastEnd) × (17592186044416 < now (self .entry) .ticks + ticks)) ⌝ }
+        ensures { λ r. ⌜ Cases r (λ _. now (self .entry) .ticks + ticks ≤ 17592186044416) (λ e. (Err e ≡ run-answer (held-state (now (self .entry))) ticks) × (held-state (now (self .entry)) ≡ run-after (held-state (now (self .entry))) ticks)) ⌝ }
     {
         if ticks > 17592186044416 - self.ticks {
             return Err(ClockRefusal::TicksPastEnd);

@@ -6,3 +6,4 @@ pub mod mask;
 pub mod held;
 pub mod calls;
 pub mod step;
+pub mod theorems;

@@ -25,7 +25,7 @@ use Rattle.slot_clock.specs.Held.{weights-of, next-of, held-state, Room}
 use Rattle.slot_clock.proofs.Rounds.{owed-sum, owed-at, owed-below, ticks-shown}
 use Rattle.slot_clock.proofs.Sound.{Sound, each-heavy, early, near, from-near, stamp-near, stamp-is, stamp-own, added, sound-added, sound-passed}
 
-pub take-set : (n : ℕ) (l : List ℕ) (i x : ℕ) → take n (set l i x) ≡ set (take n l) i x
+pub take-set : {X : Type 0} (n : ℕ) (l : List X) (i : ℕ) (x : X) → take n (set l i x) ≡ set (take n l) i x
 take-set zero l i x = refl
 take-set (suc n) [] i x = refl
 take-set (suc n) (y ∷ l) zero x = refl

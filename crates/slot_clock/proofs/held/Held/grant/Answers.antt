@@ -1,9 +1,9 @@
-use mathlib.Core.Path.{_∙_}
+use mathlib.Core.Path.{refl, _∙_}
 use Prim.Native.Nat.{_+_}
 use native.Mathlib.Omega.{arith}
 use lib.ListN.{length-set}
 use Rattle.slot_clock.specs.Held.{held-state}
-use Rattle.slot_clock.proofs.Holding.{held-stamp, held-added, held-answer, held-after}
+use Rattle.slot_clock.proofs.Holding.{held-stamp, held-added, held-answer, held-after, take-set}
 use Rattle.slot_clock.proofs.held.Held.grant.Needs as need
 
 pub add-self : need.add-self
@@ -21,4 +21,5 @@ unfolding held-state
 returns c = record {
   answer = held-answer (c .args .self .now) (c .args .session) (c .args .size) (c .args .from) (c .pre .room) (c .args .stamp) (c .pre .stamp);
   after = held-after (c .args .self .now) (c .args .session) (c .args .size) (c .args .from) (c .pre .room) (c .args .stamp) (c .pre .stamp);
+  next = (refl, take-set (c .args .self .now .sessions) (c .args .self .now .next) (c .args .session) (c .args .stamp + 1));
 }

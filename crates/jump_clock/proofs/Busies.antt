@@ -7,14 +7,15 @@ use Prim.Native.Nat.{ℕ, zero, suc, _+_, _-_, _^_, _<_, _≤_}
 use native.Mathlib.Omega.{arith}
 use lib.Dec.{ltb, eqb}
 use lib.ListN.{length, getD, set, replicate}
-use Rattle.std.proofs.shelf.Lists.{getD-default}
+use Rattle.std.proofs.shelf.Lists.{getD-default, getD-take, length-take-le}
 use Rattle.std.proofs.shelf.Tests.{lt-ltb, le-ltb, ltb-true, ltb-false, eqb-true, eq-eqb, ne-eqb, and-parts, and-from, cases-lt, cases-bool}
 use Rattle.tick_machine.specs.Lists.{total, only}
 use Rattle.tick_machine.specs.Slots.{owner}
 use Rattle.tick_machine.proofs.Lists.{only-yes, only-no}
 use Rattle.slot_clock.specs.Walk.{Tops}
 use Rattle.jump_clock.specs.declared.dry.Dry.{Dry}
-use Rattle.jump_clock.specs.Dries.{blank, Ordered, over-busy, Holds, Traded, Gained, Lost}
+use Rattle.jump_clock.specs.declared.dry.Busy.{Busy}
+use Rattle.jump_clock.specs.Dries.{blank, items, Ordered, over-busy, Holds, Traded, Gained, Lost}
 use Rattle.jump_clock.proofs.Heaps.{top}
 
 -- a busy session counts
@@ -252,3 +253,12 @@ holds-renewed-at xs ys v next k n i e holds l u traded =
 
 pub later-end : (xs : List Dry) (v : ℕ) (next : List ℕ) (k i : ℕ) → getD xs k blank .session ≡ i → Holds xs v next → k < length xs → getD xs k blank .end ≡ getD next i 0
 later-end xs v next k i e holds l = sym (stands xs v next holds k l .1) ∙ ap (λ j. getD next j 0) e
+
+pub items-are : (b : Busy) → length (items b) ≡ b .count
+items-are b = length-take-le (b .count) (b .places) (omega (arith, b .fits .0, b .fits .1))
+
+-- the same of the first place
+pub first-place : (b : Busy) (v : ℕ) (next : List ℕ) → Holds (items b) v next → Ordered (items b) → 0 < b .count → First v next (getD (b .places) 0 blank .session) (getD (items b) 0 blank .end)
+first-place b v next holds ordered some =
+    subst (λ (x : Dry). First v next (x .session) (getD (items b) 0 blank .end)) (getD-take (b .count) (b .places) 0 blank some)
+    (firstly (items b) v next holds ordered (omega (arith, items-are b)))

@@ -6,7 +6,7 @@ use mathlib.Core.List.{List, [], _∷_, _++_}
 use Prim.Native.Nat.{ℕ, zero, suc, _+_, _-_, _*_, _/_, _<_, _≤_}
 use native.Mathlib.Omega.{arith}
 use lib.Dec.{ltb}
-use lib.ListN.{length, getD, set, take, length-set, length-append}
+use lib.ListN.{length, getD, set, take, drop, length-set, length-append, length-drop}
 use lib.Seq.{getD-set-same, getD-set-other}
 use Rattle.std.specs.Slices.{Shuffled}
 use Rattle.std.specs.shelf.Lists.{sumBy}
@@ -124,3 +124,9 @@ sifted xs ws zs n l h o =
 -- the last of n places takes the first's
 pub front-set : (xs : List Dry) (m n : ℕ) (t : Dry) → m ≤ n → take m (set xs 0 t) ≡ take m (set (take n xs) 0 t)
 front-set xs m n t l = sym (take-take m n (set xs 0 t) l) ∙ ap (take m) (take-set n xs 0 t)
+
+pub sifted-length : (xs ws : List Dry) (n : ℕ) → n ≤ length xs → Shuffled (take (n - 0) xs) ws → length (ws ++ drop (n - 0) xs) ≡ length xs
+sifted-length xs ws n l h =
+    let e : n - 0 ≡ n = omega arith in
+    let size = length-take-le (n - 0) xs (omega arith) in
+    omega (arith, total-ones ws, total-ones (take (n - 0) xs), total-shuffled (λ _. 1) (take (n - 0) xs) ws h, size, length-append ws (drop (n - 0) xs), length-drop (n - 0) xs)

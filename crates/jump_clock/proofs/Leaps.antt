@@ -8,13 +8,15 @@ use native.Mathlib.Omega.{arith}
 use native.Mathlib.Nat.{mul-le-mul, mod-lt, mod-eq-of-lt}
 use lib.Dec.{ltb, eqb}
 use lib.ListN.{length, getD}
-use Rattle.std.proofs.shelf.Tests.{lt-ltb, le-ltb, cases-lt}
-use Rattle.tick_machine.specs.Lists.{count, All}
-use Rattle.tick_machine.specs.Slots.{round-length, holder, owner}
-use Rattle.tick_machine.proofs.Windows.{owner-there}
+use Rattle.std.proofs.shelf.Tests.{lt-ltb, le-ltb, cases-lt, eqb-true}
+use Rattle.tick_machine.specs.Lists.{count, final, All}
+use Rattle.tick_machine.specs.Slots.{round-length, holder, owner, own-slots}
+use Rattle.tick_machine.proofs.Windows.{owner-there, weight-some, first-round}
 use Rattle.slot_clock.specs.Layout.{marked, counted}
-use Rattle.slot_clock.specs.Walk.{due, ticks-cursor, Tops}
+use Rattle.slot_clock.specs.Walk.{below, due, ticks-cursor, Tops}
 use Rattle.slot_clock.proofs.Counts.{count-rises, count-pass, count-above, count-agree, count-from, count-below}
+use Rattle.slot_clock.proofs.Masks.{alone-counts}
+use Rattle.slot_clock.proofs.Reaches.{stamp-one}
 use Rattle.slot_clock.proofs.Walks.{reached, ticks-more, still, greatest-most}
 use Rattle.jump_clock.specs.Jumps.{Ahead}
 
@@ -113,3 +115,15 @@ module _ (ws next : List ℕ) (n v at : ℕ) (h : Ahead ws next n v at) (mask : 
       let e : ((left - 1) + 1) ≡ left = omega arith in
       let m = ap (λ x. x * n) e in
       omega (arith, m, mul-le-mul few (h .small), h .busy, h .near)
+
+-- a stamp in closed form
+pub stamp-done : (ws w : List ℕ) (mask : List Bool) (i m q s : ℕ) → w ≡ ws → All (λ w. 1 ≤ w) ws → i < length ws → 1 ≤ m → ((j : ℕ) → marked mask j ≡ eqb j i)
+    → counted w mask s ≡ true → count (counted w mask) s ≡ count (counted w mask) q + (m - 1) → s ≡ final 0 (own-slots ws i m q)
+stamp-done ws w mask i m q s e each l long is mine rank =
+    let own : owner ws s ≡ i = eqb-true (owner ws s) i (sym (is (owner ws s)) ∙ subst (λ x. counted x mask s ≡ true) e mine) in
+    let r : count (counted ws mask) s ≡ count (counted ws mask) q + (m - 1) = subst (λ x. count (counted x mask) s ≡ count (counted x mask) q + (m - 1)) e rank in
+    stamp-one ws each i m q s l long own (omega (arith, alone-counts ws mask i is s, alone-counts ws mask i is q))
+
+-- a session has a slot in each round
+pub alone-hit : (ws : List ℕ) (mask : List Bool) (i n : ℕ) → All (λ w. 1 ≤ w) ws → i < length ws → n ≡ round-length ws → ((j : ℕ) → marked mask j ≡ eqb j i) → 0 < count (counted ws mask) n
+alone-hit ws mask i n each l e is = omega (arith, alone-counts ws mask i is n, ap (below ws i) e, first-round ws i l, weight-some ws i each l)

@@ -1,20 +1,13 @@
 -- What the jumping clock holds, as its calls need it. Assumes nothing.
 use mathlib.Core.Path.{_≡_, refl, sym, ap, subst, _∙_}
-use mathlib.Core.List.{List, []}
-use mathlib.Core.Bool.{Bool, true, false, cond, _&&_}
+use mathlib.Core.List.{List}
 use Prim.Native.Nat.{ℕ, _+_, _<_, _≤_}
 use native.Mathlib.Omega.{arith}
-use lib.Dec.{ltb, leb}
-use lib.ListN.{length, getD, replicate}
-use Rattle.std.specs.declared.result.Result.the-variants.{Ok}
+use lib.Dec.{ltb}
+use lib.ListN.{length, getD}
 use Rattle.tick_machine.specs.Lists.{total, only}
-use Rattle.tick_machine.specs.Slots.{round-length}
-use Rattle.tick_machine.specs.Round.{fresh-round}
-use Rattle.slot_clock.specs.State.{SlotState, state-of}
-use Rattle.slot_clock.specs.Calls.{no-zero, made-answer}
 use Rattle.slot_clock.specs.declared.held.Held.{Held}
 use Rattle.slot_clock.specs.Held.{weights-of, next-of, held-state}
-use Rattle.slot_clock.proofs.Servers.{passes}
 use Rattle.slot_clock.proofs.Sound.{near}
 use Rattle.slot_clock.proofs.Holding.{sessions-are, nexts-are, sound}
 use Rattle.jump_clock.specs.declared.dry.Busy.{Busy}
@@ -45,12 +38,3 @@ pub sessions-busy : (h : Held) (b : Busy) (v : ℕ) (next : List ℕ) → h .cur
 unfolding held-state
 sessions-busy h b v next e f holds =
     ap (λ x. total (λ n. only (ltb x n) 1) (next-of h)) e ∙ ap (λ y. total (λ n. only (ltb v n) 1) y) f ∙ sym (busy-count (items b) v next holds) ∙ items-are b
-
--- a clock that was just made
-pub fresh-held : (h : Held) (ws : List ℕ) → Ok (held-state h) ≡ made-answer ws → (h .cursor ≡ 0) × (next-of h ≡ replicate (length ws) 0)
-unfolding held-state
-fresh-held h ws e =
-    let a = passes (ltb 0 (length ws) && leb (length ws) 64) _ _ (held-state h) (sym e) in
-    let b : Ok (state-of ws 0 (fresh-round ws)) ≡ Ok (held-state h) = passes (no-zero ws && leb (round-length ws) 4096) _ _ (held-state h) a in
-    let s : state-of ws 0 (fresh-round ws) ≡ held-state h = cc in
-    (sym (ap (λ (x : SlotState). x .cursor) s), sym (ap (λ (x : SlotState). x .next) s))

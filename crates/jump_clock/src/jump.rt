@@ -118,7 +118,7 @@ pub impl SlotClock for JumpClock as ByJumps {
     }
 
     fn cursor(&self) -> u64 {
-        self.held.cursor
+        self.held.cursor()
     }
 
     fn owed(&self, session: u64) -> Result<u64, ClockRefusal> {

@@ -42,7 +42,7 @@ pub state-tells-the-round : State-tells-the-round
 state-tells-the-round ws each r l t = sym (told ws each r l .same)
 
 -- what is not refused
-pub passes : {X : Type 0} (b : Bool) (x : Result X ClockRefusal) (e : ClockRefusal) (v : X) → cond b x (Err e) ≡ Ok v → x ≡ Ok v
+passes : {X : Type 0} (b : Bool) (x : Result X ClockRefusal) (e : ClockRefusal) (v : X) → cond b x (Err e) ≡ Ok v → x ≡ Ok v
 passes true x e v h = h
 passes false x e v h = let z : _≡_ {A = ℕ} 0 1 = cc in absurd (omega arith)
 

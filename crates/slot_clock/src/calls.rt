@@ -4,7 +4,7 @@ ghost use mathlib.Core.Bool.{Bool, true, false, cond, _&&_};
 ghost use mathlib.Core.List.{List};
 ghost use Prim.Native.Nat.{ℕ, _+_, _-_, _*_, _<_, _≤_};
 ghost use lib.Dec.{ltb, leb};
-ghost use lib.ListN.{length, getD, set, take};
+ghost use lib.ListN.{length, getD, set, take, replicate};
 ghost use Rattle.std.specs.Results.{Cases};
 ghost use Rattle.std.specs.declared.option.Option.the-variants.{Some, None};
 ghost use Rattle.std.specs.declared.result.Result.the-variants.{Ok, Err};
@@ -57,7 +57,8 @@ impl Held {
 
     // Nothing is owed, and no tick has passed.
     pub fn make(weights: &[u64]) -> Result<Held, ClockRefusal>
-        ensures { λ r. ⌜ made-state held-state r ≡ made-answer (now (weights .entry)) ⌝ }
+        ensures made { λ r. ⌜ made-state held-state r ≡ made-answer (now (weights .entry)) ⌝ }
+        ensures fresh { λ r. ⌜ Cases r (λ h. (h .cursor ≡ 0) × (next-of h ≡ replicate (h .sessions) 0)) (λ _. Unit {0}) ⌝ }
     {
         if weights.is_empty() || weights.len() > 64 {
             return Err(ClockRefusal::Sessions);
@@ -121,6 +122,14 @@ impl Held {
         self.owed = self.owed.saturating_sub(ticks);
     }
 
+    // V.
+    pub fn cursor(&self) -> u64
+        ensures { λ r. ⌜ r ≡ held-state (now (self .entry)) .cursor ⌝ }
+    {
+        self.cursor
+    }
+
+    // How many bytes a session is owed: its slots from V on that are below its next.
     pub fn owed_to(&self, session: u64) -> Result<u64, ClockRefusal>
         ensures { λ r. ⌜ r ≡ owed-answer (held-state (now (self .entry))) session ⌝ }
     {

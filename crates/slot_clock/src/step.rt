@@ -98,7 +98,7 @@ pub impl SlotClock for StepClock as BySteps {
     }
 
     fn cursor(&self) -> u64 {
-        self.held.cursor
+        self.held.cursor()
     }
 
     fn owed(&self, session: u64) -> Result<u64, ClockRefusal> {

@@ -1,5 +1,7 @@
 // Both slot clocks through the same rows, and side by side on drawn steps.
+#[cfg(test)]
 mod step;
+#[cfg(test)]
 mod tables;
 
 #[cfg(test)]

@@ -24,4 +24,7 @@ returns c =
     let ws = c .args .weights .now in
     let l : 0 < length ws = search needs in
     let u : length ws ≤ 64 = search needs in
-    made ws (take (length ws) (c .placed-weights .result)) (take (length ws) (replicate 64 0)) l u (c .in-Some .round) (c .in-Some .ensures tt) (c .placed-weights .ensures .1) (take-replicate (length ws) 64 0 u)
+    record {
+      made = made ws (take (length ws) (c .placed-weights .result)) (take (length ws) (replicate 64 0)) l u (c .in-Some .round) (c .in-Some .ensures tt) (c .placed-weights .ensures .1) (take-replicate (length ws) 64 0 u);
+      fresh = (refl, take-replicate (length ws) 64 0 u);
+    }

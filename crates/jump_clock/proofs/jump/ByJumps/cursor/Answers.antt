@@ -1,7 +1,0 @@
-use mathlib.Core.Path.{refl}
-use Rattle.slot_clock.specs.Held.{held-state}
-use Rattle.jump_clock.proofs.jump.ByJumps.cursor.Needs as need
-
-pub returns : need.returns
-unfolding held-state
-returns c = refl

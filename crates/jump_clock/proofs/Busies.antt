@@ -119,12 +119,21 @@ over-less f v u i j [] l a b h = absurd (omega arith)
 over-less f v u i zero (n ∷ ns) l a b h =
     let e : i + 0 ≡ i = omega arith in
     let x : Dry = record { end = n; session = i } in
-    omega (arith, only-yes (ltb v n) (f x) (lt-ltb v n a), only-no (ltb u n) (f x) (le-ltb u n b), ap (λ s. f (record { end = n; session = s })) e,
-      over-same f v u (suc i) ns (λ m k. h (suc m) (omega arith) (λ z. omega arith)))
+    omega (
+      arith,
+      only-yes (ltb v n) (f x) (lt-ltb v n a),
+      only-no (ltb u n) (f x) (le-ltb u n b),
+      ap (λ s. f (record { end = n; session = s })) e,
+      over-same f v u (suc i) ns (λ m k. h (suc m) (omega arith) (λ z. omega arith)),
+    )
 over-less f v u i (suc j) (n ∷ ns) l a b h =
     let e : i + suc j ≡ suc i + j = omega arith in
-    omega (arith, ap (λ c. only c (f (record { end = n; session = i }))) (h 0 (omega arith) (λ z. omega arith)), ap (λ s. f (record { end = getD ns j 0; session = s })) e,
-      over-less f v u (suc i) j ns (omega arith) a b (λ m k d. h (suc m) (omega arith) (λ z. d (omega arith))))
+    omega (
+      arith,
+      ap (λ c. only c (f (record { end = n; session = i }))) (h 0 (omega arith) (λ z. omega arith)),
+      ap (λ s. f (record { end = getD ns j 0; session = s })) e,
+      over-less f v u (suc i) j ns (omega arith) a b (λ m k d. h (suc m) (omega arith) (λ z. d (omega arith))),
+    )
 
 -- a session's next is raised
 over-set : (f : Dry → ℕ) (v i j n′ : ℕ) (ns : List ℕ) → j < length ns → v < n′

@@ -34,8 +34,7 @@ pub heavy-top : (xs : List Dry) (m : ℕ) (t : Dry) → Ordered xs → length xs
 heavy-top xs m t h n =
     let size : length (take m (set xs 0 t)) ≡ m = length-take-le m (set xs 0 t) (omega (arith, length-set xs 0 t)) in
     let same : (k : ℕ) (d : Dry) → (k ≡ 0 → ⊥) → k < m → getD (take m (set xs 0 t)) k d ≡ getD xs k d
-    = λ k d u l. getD-take m (set xs 0 t) k d l ∙ getD-set-other xs 0 k t d u in
-    (
+    = λ k d u l. getD-take m (set xs 0 t) k d l ∙ getD-set-other xs 0 k t d u in (
       λ k d z f u. (λ i. by-end (same k d (omega arith) (omega (arith, size)) i) (same (parent k) d u (omega (arith, size)) i)) ∙ heaped-of xs h k d z (omega (arith, size)),
       λ k d z f e. absurd (omega arith),
     )
@@ -45,21 +44,20 @@ pub heavy-later : (xs : List Dry) (j : ℕ) (t : Dry) → Ordered xs → j < len
 heavy-later xs j t h l le =
     let n : length (set xs j t) ≡ length xs = length-set xs j t in
     let def : (k : ℕ) (d : Dry) → k < length xs → getD xs k d .end ≡ getD xs k blank .end = λ k d f. ap (λ (x : Dry). x .end) (getD-default xs k d blank f) in
-    let off : (k : ℕ) (d : Dry) → (k ≡ j → ⊥) → getD (set xs j t) k d .end ≡ getD xs k d .end = λ k d u. ap (λ (x : Dry). x .end) (getD-set-other xs j k t d u) in
-    (
+    let off : (k : ℕ) (d : Dry) → (k ≡ j → ⊥) → getD (set xs j t) k d .end ≡ getD xs k d .end = λ k d u. ap (λ (x : Dry). x .end) (getD-set-other xs j k t d u) in (
       λ k d z f u. ⊎-elim
-        (λ (e : k ≡ j).
-        let at : getD (set xs j t) k d .end ≡ t .end = ap (λ (m : ℕ). getD (set xs j t) m d .end) e ∙ ap (λ (x : Dry). x .end) (getD-set-same xs j t d l) in
-        let g : k < length xs = omega (arith, n) in
-        le-ltb _ _ (omega (arith, at, off (parent k) d u, def (parent k) d (omega arith), h k z g, ap (λ (m : ℕ). getD xs m blank .end) e, le)))
-        (λ (e : k ≡ j → ⊥).
-        let g : k < length xs = omega (arith, n) in
-        le-ltb _ _ (omega (arith, off k d e, off (parent k) d u, def k d g, def (parent k) d (omega arith), h k z g)))
-        (cases-eq k j),
+          (λ (e : k ≡ j).
+          let at : getD (set xs j t) k d .end ≡ t .end = ap (λ (m : ℕ). getD (set xs j t) m d .end) e ∙ ap (λ (x : Dry). x .end) (getD-set-same xs j t d l) in
+          let g : k < length xs = omega (arith, n) in
+          le-ltb _ _ (omega (arith, at, off (parent k) d u, def (parent k) d (omega arith), h k z g, ap (λ (m : ℕ). getD xs m blank .end) e, le)))
+          (λ (e : k ≡ j → ⊥).
+          let g : k < length xs = omega (arith, n) in
+          le-ltb _ _ (omega (arith, off k d e, off (parent k) d u, def k d g, def (parent k) d (omega arith), h k z g)))
+          (cases-eq k j),
       λ k d z f e.
-        let g : k < length xs = omega (arith, n) in
-        let up : getD xs j blank .end ≤ getD xs k blank .end = subst (λ (m : ℕ). getD xs m blank .end ≤ getD xs k blank .end) e (h k (omega arith) g) in
-        le-ltb _ _ (omega (arith, off k d (omega arith), off (parent j) d (omega arith), def k d g, def (parent j) d (omega arith), up, h j z l)),
+          let g : k < length xs = omega (arith, n) in
+          let up : getD xs j blank .end ≤ getD xs k blank .end = subst (λ (m : ℕ). getD xs m blank .end ≤ getD xs k blank .end) e (h k (omega arith) g) in
+          le-ltb _ _ (omega (arith, off k d (omega arith), off (parent j) d (omega arith), def k d g, def (parent j) d (omega arith), up, h j z l)),
     )
 
 -- the first is no later than any

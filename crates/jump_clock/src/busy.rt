@@ -26,7 +26,10 @@ impl Busy {
     pub fn empty() -> Busy
         ensures { λ r. ⌜ items r ≡ [] ⌝ }
     {
-        Busy { places: [Dry { end: 0, session: 0 }; 64], count: 0 }
+        Busy {
+            places: [Dry { end: 0, session: 0 }; 64],
+            count: 0,
+        }
     }
 
     fn raise(&mut self, at: usize)

@@ -101,7 +101,10 @@ pub impl SlotClock for JumpClock as ByJumps {
 
     fn make(weights: &[u64]) -> Result<JumpClock, ClockRefusal> {
         let held = Held::make(weights)?;
-        Ok(JumpClock { held, busy: Busy::empty() })
+        Ok(JumpClock {
+            held,
+            busy: Busy::empty(),
+        })
     }
 
     fn add(&mut self, session: u64, size: u64) -> Result<u64, ClockRefusal> {

@@ -51,8 +51,14 @@ count-from f q s e h = ⊎-elim (λ (k : s < q). absurd (omega (arith, count-abo
 pub count-agree : (f g : ℕ → Bool) (a x : ℕ) → a ≤ x → ((q : ℕ) → a ≤ q → q < x → f q ≡ g q) → count f x + count g a ≡ count g x + count f a
 count-agree f g a x l h =
     let e : a + (x - a) ≡ x = omega arith in
-    omega (arith, count-split f a (x - a), count-split g a (x - a), ap (count f) e, ap (count g) e,
-      count-same (λ p. f (a + p)) (λ p. g (a + p)) (x - a) (λ q k. h (a + q) (omega arith) (omega arith)))
+    omega (
+      arith,
+      count-split f a (x - a),
+      count-split g a (x - a),
+      ap (count f) e,
+      ap (count g) e,
+      count-same (λ p. f (a + p)) (λ p. g (a + p)) (x - a) (λ q k. h (a + q) (omega arith) (omega arith)),
+    )
 
 pub found-pass : (test : ℕ → Bool) (q r : ℕ) → Found test q r → test r ≡ true
 unfolding Found

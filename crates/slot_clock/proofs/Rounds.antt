@@ -113,8 +113,12 @@ owed-sum ws r some = total-map (λ i. owed-to ws i r) (from 0 (length ws)) ∙ g
     go [] = total-none (from 0 (length ws))
     go (q ∷ qs) =
         let o = owner ws q in
-        omega (arith, total-plus (λ i. only (eqb o i) 1) (λ i. total (λ q. only (eqb (owner ws q) i) 1) qs) (from 0 (length ws)),
-          there-once o 0 (length ws) (omega arith) (omega (arith, owner-there ws q some)), go qs)
+        omega (
+          arith,
+          total-plus (λ i. only (eqb o i) 1) (λ i. total (λ q. only (eqb (owner ws q) i) 1) qs) (from 0 (length ws)),
+          there-once o 0 (length ws) (omega arith) (omega (arith, owner-there ws q some)),
+          go qs,
+        )
 
 map-from : (f : ℕ → ℕ) (k a i : ℕ) → i < k → getD (map f (from a k)) i 0 ≡ f (a + i)
 map-from f zero a i l = absurd (omega arith)

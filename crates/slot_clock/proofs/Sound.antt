@@ -87,15 +87,15 @@ module _ (ws next : List ℕ) (n v ticks owed : ℕ) (h : Sound ws next n v tick
         each = h .each;
         same = length-set next i (s + 1) ∙ h .same;
         tops = λ j l z.
-          ⊎-elim
-          (λ (e : j ≡ i).
-          let a : getD (set next i (s + 1)) j 0 ≡ s + 1 = ap (λ x. getD (set next i (s + 1)) x 0) e ∙ getD-set-same next i (s + 1) 0 (omega (arith, h .same)) in
-          let b : getD (set next i (s + 1)) j 0 - 1 ≡ s = omega arith in
-          ap (owner ws) b ∙ stamp-own .own ∙ sym e)
-          (λ (d : j ≡ i → ⊥).
-          let a : getD (set next i (s + 1)) j 0 ≡ getD next j 0 = getD-set-other next i j (s + 1) 0 d in
-          ap (λ x. owner ws (x - 1)) a ∙ h .tops j (omega (arith, length-set next i (s + 1))) (omega arith))
-          (cases-eq j i);
+            ⊎-elim
+            (λ (e : j ≡ i).
+            let a : getD (set next i (s + 1)) j 0 ≡ s + 1 = ap (λ x. getD (set next i (s + 1)) x 0) e ∙ getD-set-same next i (s + 1) 0 (omega (arith, h .same)) in
+            let b : getD (set next i (s + 1)) j 0 - 1 ≡ s = omega arith in
+            ap (owner ws) b ∙ stamp-own .own ∙ sym e)
+            (λ (d : j ≡ i → ⊥).
+            let a : getD (set next i (s + 1)) j 0 ≡ getD next j 0 = getD-set-other next i j (s + 1) 0 d in
+            ap (λ x. owner ws (x - 1)) a ∙ h .tops j (omega (arith, length-set next i (s + 1))) (omega arith))
+            (cases-eq j i);
         paced = h .paced;
         few = h .few;
         sum = omega (arith, h .sum, add-length ws i m (shown-round ws v next) (h .each) known long, ap (λ (r : Round). length (r .owed)) added);

@@ -68,7 +68,15 @@ impl Held {
         };
         let sessions = weights.len();
         let weights = placed(weights);
-        Ok(Held { weights, next: [0; 64], sessions, round, cursor: 0, ticks: 0, owed: 0 })
+        Ok(Held {
+            weights,
+            next: [0; 64],
+            sessions,
+            round,
+            cursor: 0,
+            ticks: 0,
+            owed: 0,
+        })
     }
 
     // The slot from which a packet's slots are looked for, or why the packet is refused.

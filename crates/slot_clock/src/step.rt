@@ -67,7 +67,14 @@ fn stamp_of(held: &Held, session: u64, size: u64, from: u64) -> u64
 fn after(held: &Held, ticks: u64) -> u64
     ensures { λ r. ⌜ r ≡ ticks-cursor (weights-of (now (held .entry))) (next-of (now (held .entry))) ticks (now (held .entry) .cursor) ⌝ }
 {
-    walk(held.weights(), held.round, held.nexts(), held.cursor, held.owed, ticks)
+    walk(
+        held.weights(),
+        held.round,
+        held.nexts(),
+        held.cursor,
+        held.owed,
+        ticks,
+    )
 }
 
 #[derive(Drop)]

@@ -83,8 +83,14 @@ struct Dice {
 
 impl Dice {
     fn roll(&mut self, faces: u64) -> u64 {
-        self.state = self.state.wrapping_mul(6364136223846793005).wrapping_add(1442695040888963407);
-        if faces == 0 { 0 } else { (self.state >> 33) % faces }
+        self.state = self.state
+            .wrapping_mul(6364136223846793005)
+            .wrapping_add(1442695040888963407);
+        if faces == 0 {
+            0
+        } else {
+            (self.state >> 33) % faces
+        }
     }
 }
 
@@ -106,7 +112,11 @@ fn same_owed<A: SlotClock, B: SlotClock>(a: &A, b: &B, sessions: u64) -> Result<
 }
 
 // Two clocks side by side on drawn steps.
-pub fn compared<A: SlotClock + Drop, B: SlotClock + Drop>(weights: &[u64], seed: u64, steps: u64) -> Result<(), Fail> {
+pub fn compared<A: SlotClock + Drop, B: SlotClock + Drop>(
+    weights: &[u64],
+    seed: u64,
+    steps: u64,
+) -> Result<(), Fail> {
     let mut a = A::make(weights)?;
     let mut b = B::make(weights)?;
     let mut dice = Dice { state: seed };

@@ -9,8 +9,12 @@ use Rattle.jump_clock.proofs.jumping.jump.Needs as need
 
 pub sub-through : need.sub-through
 sub-through c =
-    omega (arith, rises (c .args .weights .now) (c .args .next .now) (c .args .round) (c .args .v) (c .args .at) (c .pre .ahead) (c .busy-mask-mask .result) (c .busy-mask-mask .ensures .1),
-      c .rank-of-before .ensures .is, c .rank-of .ensures .is)
+    omega (
+      arith,
+      rises (c .args .weights .now) (c .args .next .now) (c .args .round) (c .args .v) (c .args .at) (c .pre .ahead) (c .busy-mask-mask .result) (c .busy-mask-mask .ensures .1),
+      c .rank-of-before .ensures .is,
+      c .rank-of .ensures .is,
+    )
 
 pub slot-from-requires : need.slot-from-requires
 slot-from-requires c κs =

@@ -15,18 +15,19 @@ returns-then-w-eq0 c =
     let ws = c .args .weights .now in
     let i = c .loop-w .w-index in
     elim (c .then-w-eq0 .came) [
-      then-w-eq0·by·then-w-eq0 w ↦ zero-refuses ws i (c .loop-w-test .taken) (c .loop-w .inv .1) (w .if-w-eq0 .taken)
-    | then-w-eq0·by·else-w-eq0·then-w-sum w ↦ many-refuse ws i (c .loop-w .sum) (c .loop-w-test .taken) (c .loop-w .inv .0) (w .if-w-sum .taken)
+      | then-w-eq0·by·then-w-eq0 w ↦ zero-refuses ws i (c .loop-w-test .taken) (c .loop-w .inv .1) (w .if-w-eq0 .taken)
+      | then-w-eq0·by·else-w-eq0·then-w-sum w ↦ many-refuse ws i (c .loop-w .sum) (c .loop-w-test .taken) (c .loop-w .inv .0) (w .if-w-sum .taken)
     ]
 
 pub loop-w-again : need.loop-w-again
 loop-w-again c =
     let ws = c .args .weights .now in
     let i = c .loop-w .w-index in
-    let l = c .loop-w-test .taken in
-    (omega (arith, c .loop-w .inv .0, round-more ws i l),
+    let l = c .loop-w-test .taken in (
+      omega (arith, c .loop-w .inv .0, round-more ws i l),
       sym (no-zero-more ws i l ∙ ap (λ b. b && no-zero (drop (i + 1) ws)) (lt-ltb 0 (getD ws i 0) (omega (arith, c .if-w-eq0 .left)))) ∙ c .loop-w .inv .1,
-      omega (arith, c .if-w-sum .left, c .loop-w .inv .2))
+      omega (arith, c .if-w-sum .left, c .loop-w .inv .2),
+    )
 
 pub returns : need.returns
 returns c = none-refuses (c .args .weights .now) (c .loop-w .w-index) (c .loop-w .sum) (c .loop-w-test .left) (c .loop-w .inv .0) (c .loop-w .inv .1) (c .loop-w .inv .2)

@@ -29,8 +29,8 @@ loop-i-again c =
     let m = part-more b ws i (c .loop-i-test .taken) p in
     let x = ap (part b (i + 1) (drop (i + 1) ws)) (c .saturating-sub-p .ensures) in
     elim (c .if-mask-i .came) [
-      then-mask-i w ↦ omega (arith, w .sum-is, c .loop-i .inv, m, x, w .min-sum .ensures, only-yes (b i) (min p (getD ws i 0)) (w .if-mask-i .taken))
-    | else-mask-i w ↦ omega (arith, w .sum-is, c .loop-i .inv, m, x, only-no (b i) (min p (getD ws i 0)) (w .if-mask-i .left))
+      | then-mask-i w ↦ omega (arith, w .sum-is, c .loop-i .inv, m, x, w .min-sum .ensures, only-yes (b i) (min p (getD ws i 0)) (w .if-mask-i .taken))
+      | else-mask-i w ↦ omega (arith, w .sum-is, c .loop-i .inv, m, x, only-no (b i) (min p (getD ws i 0)) (w .if-mask-i .left))
     ]
 
 pub returns : need.returns

@@ -35,16 +35,16 @@ loop-i-again c =
     let m = whole-more b ws i l in
     let o = round-more ws i l in
     elim (c .if-mask-i .came) [
-      then-mask-i·else-u-weights w ↦
-        let t = w .if-mask-i .taken in
-        let k = place-past b ws i l u t (w .if-u-weights .left) in
-        let x = ap (place b (i + 1) (drop (i + 1) ws)) (w .u-is) in
-        (omega (arith, c .loop-i .inv .0, k, x), omega (arith, w .u-is, w .if-u-weights .left, c .loop-i .inv .1, m, only-yes (b i) (getD ws i 0) t), omega (arith, o, c .loop-i .inv .2))
-    | else-mask-i w ↦
-        let t = w .if-mask-i .left in
-        let k = place-idle b ws i l u t in
-        let x = ap (place b (i + 1) (drop (i + 1) ws)) (w .u-is) in
-        (omega (arith, c .loop-i .inv .0, k, x), omega (arith, w .u-is, c .loop-i .inv .1, m, only-no (b i) (getD ws i 0) t), omega (arith, o, c .loop-i .inv .2))
+      | then-mask-i·else-u-weights w ↦
+          let t = w .if-mask-i .taken in
+          let k = place-past b ws i l u t (w .if-u-weights .left) in
+          let x = ap (place b (i + 1) (drop (i + 1) ws)) (w .u-is) in
+          (omega (arith, c .loop-i .inv .0, k, x), omega (arith, w .u-is, w .if-u-weights .left, c .loop-i .inv .1, m, only-yes (b i) (getD ws i 0) t), omega (arith, o, c .loop-i .inv .2))
+      | else-mask-i w ↦
+          let t = w .if-mask-i .left in
+          let k = place-idle b ws i l u t in
+          let x = ap (place b (i + 1) (drop (i + 1) ws)) (w .u-is) in
+          (omega (arith, c .loop-i .inv .0, k, x), omega (arith, w .u-is, c .loop-i .inv .1, m, only-no (b i) (getD ws i 0) t), omega (arith, o, c .loop-i .inv .2))
     ]
 
 pub returns : need.returns

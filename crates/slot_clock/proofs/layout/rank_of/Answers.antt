@@ -11,7 +11,6 @@ use Rattle.slot_clock.specs.Layout.{marked, whole, part, place}
 use Rattle.slot_clock.proofs.Blocks.{rank-done}
 use Rattle.slot_clock.proofs.layout.rank_of.Needs as need
 
-
 pub mul-result : need.mul-result
 mul-result c =
     let r = rank-done (marked (c .args .mask .now)) (c .args .weights .now) (c .args .x) (c .args .round) (c .weight-of .result) (c .part-of-rest .result)

@@ -45,8 +45,11 @@ add-result c =
 pub mul-result : need.mul-result
 mul-result c =
     let s = heavy (c .args .weights .now) (c .args .mask .now) (c .args .round) (c .weight-of-all .result) (c .pre .whole) (c .pre .hit) (c .weight-of-all .ensures) in
-    omega (arith, rounds-near (c .args .weights .now) (c .args .mask .now) (c .args .from) (c .args .between) (c .args .round) (c .weight-of-all .result) (c .part-of .result)
-    (c .pre .whole) (c .pre .some) (c .weight-of-all .ensures) s (c .part-of .ensures) (c .pre .near))
+    omega (
+      arith,
+      rounds-near (c .args .weights .now) (c .args .mask .now) (c .args .from) (c .args .between) (c .args .round) (c .weight-of-all .result) (c .part-of .result)
+          (c .pre .whole) (c .pre .some) (c .weight-of-all .ensures) s (c .part-of .ensures) (c .pre .near),
+    )
 
 pub rem-u : need.rem-u
 rem-u c = div-result-2 c

@@ -26,8 +26,8 @@ loop-i-again c =
     let i = c .loop-i .i in
     let m = whole-more b ws i (c .loop-i-test .taken) in
     elim (c .if-mask-i .came) [
-      then-mask-i w ↦ omega (arith, w .sum-is, c .loop-i .inv, m, only-yes (b i) (getD ws i 0) (w .if-mask-i .taken))
-    | else-mask-i w ↦ omega (arith, w .sum-is, c .loop-i .inv, m, only-no (b i) (getD ws i 0) (w .if-mask-i .left))
+      | then-mask-i w ↦ omega (arith, w .sum-is, c .loop-i .inv, m, only-yes (b i) (getD ws i 0) (w .if-mask-i .taken))
+      | else-mask-i w ↦ omega (arith, w .sum-is, c .loop-i .inv, m, only-no (b i) (getD ws i 0) (w .if-mask-i .left))
     ]
 
 pub returns : need.returns

@@ -14,9 +14,9 @@ one : (i : ℕ) → i < 64 → (length (set (replicate 64 false) i true) ≡ 64)
 one i l = (
   length-set (replicate 64 false) i true,
   λ j. ⊎-elim
-    (λ (e : j ≡ i). ap (λ x. getD (set (replicate 64 false) i true) x false) e ∙ getD-set-same (replicate 64 false) i true false l ∙ sym (eq-eqb j i e))
-    (λ (d : j ≡ i → ⊥). getD-set-other (replicate 64 false) i j true false d ∙ all-no 64 j ∙ sym (ne-eqb j i d))
-    (cases-eq j i),
+      (λ (e : j ≡ i). ap (λ x. getD (set (replicate 64 false) i true) x false) e ∙ getD-set-same (replicate 64 false) i true false l ∙ sym (eq-eqb j i e))
+      (λ (d : j ≡ i → ⊥). getD-set-other (replicate 64 false) i j true false d ∙ all-no 64 j ∙ sym (ne-eqb j i d))
+      (cases-eq j i),
 )
 
 pub returns : need.returns

@@ -38,14 +38,16 @@ loop-left-again c =
     let a = owed-ahead ws next v (omega (arith, some, c .loop-left .inv .1)) in
     let o = ap (λ s. getD next s 0) (c .owner-of-session .ensures .is) in
     elim (c .if-v-next .came) [
-      then-v-next w ↦
-        let d = lt-ltb v (getD next (owner ws v) 0) (omega (arith, w .if-v-next .taken, o)) in
-        (ap (λ n. ticks-cursor ws next n (v + 1)) (w .left-is) ∙ sym (step-due ws next left v some d) ∙ c .loop-left .inv .0,
-          omega (arith, w .left-is, owed-past ws next v a d, c .loop-left .inv .1))
-    | else-v-next w ↦
-        let d = le-ltb v (getD next (owner ws v) 0) (omega (arith, w .if-v-next .left, o)) in
-        (ap (λ n. ticks-cursor ws next n (v + 1)) (w .left-is) ∙ sym (step-skip ws next (c .pre .tops) left v some a d) ∙ c .loop-left .inv .0,
-          omega (arith, w .left-is, owed-same ws next v a d, c .loop-left .inv .1))
+      | then-v-next w ↦
+          let d = lt-ltb v (getD next (owner ws v) 0) (omega (arith, w .if-v-next .taken, o)) in (
+            ap (λ n. ticks-cursor ws next n (v + 1)) (w .left-is) ∙ sym (step-due ws next left v some d) ∙ c .loop-left .inv .0,
+            omega (arith, w .left-is, owed-past ws next v a d, c .loop-left .inv .1),
+          )
+      | else-v-next w ↦
+          let d = le-ltb v (getD next (owner ws v) 0) (omega (arith, w .if-v-next .left, o)) in (
+            ap (λ n. ticks-cursor ws next n (v + 1)) (w .left-is) ∙ sym (step-skip ws next (c .pre .tops) left v some a d) ∙ c .loop-left .inv .0,
+            omega (arith, w .left-is, owed-same ws next v a d, c .loop-left .inv .1),
+          )
     ]
 
 pub returns : need.returns

@@ -19,13 +19,21 @@ add-q c =
     let ws = c .args .weights .now in
     let each = each-heavy ws (c .pre .each) in
     let e : c .args .size * c .args .round ≡ c .args .size * round-length ws = ap (λ n. c .args .size * n) (c .pre .whole) in
-    omega (arith, e, c .pre .near, last-is ws each (c .args .session) (c .args .size) (c .args .from) (c .pre .known) (c .pre .long) .near,
-      not-past ws each (c .args .session) (c .args .size) (c .args .from) (c .pre .known) (c .pre .long) (c .loop-left .q) (c .loop-left .left) (c .loop-left .inv .0) (c .loop-left-test .taken))
+    omega (
+      arith,
+      e,
+      c .pre .near,
+      last-is ws each (c .args .session) (c .args .size) (c .args .from) (c .pre .known) (c .pre .long) .near,
+      not-past ws each (c .args .session) (c .args .size) (c .args .from) (c .pre .known) (c .pre .long) (c .loop-left .q) (c .loop-left .left) (c .loop-left .inv .0) (c .loop-left-test .taken),
+    )
 
 pub loop-left-less : need.loop-left-less
 loop-left-less c =
-    omega (arith, not-past (c .args .weights .now) (each-heavy (c .args .weights .now) (c .pre .each)) (c .args .session) (c .args .size) (c .args .from) (c .pre .known) (c .pre .long)
-      (c .loop-left .q) (c .loop-left .left) (c .loop-left .inv .0) (c .loop-left-test .taken))
+    omega (
+      arith,
+      not-past (c .args .weights .now) (each-heavy (c .args .weights .now) (c .pre .each)) (c .args .session) (c .args .size) (c .args .from) (c .pre .known) (c .pre .long)
+          (c .loop-left .q) (c .loop-left .left) (c .loop-left .inv .0) (c .loop-left-test .taken),
+    )
 
 pub loop-left-again : need.loop-left-again
 loop-left-again c =
@@ -37,8 +45,8 @@ loop-left-again c =
     let p = not-past ws (each-heavy ws (c .pre .each)) i (c .args .size) (c .args .from) (c .pre .known) (c .pre .long) q (c .loop-left .left) h (c .loop-left-test .taken) in
     let e : below ws i (q + 1) + c .if-owner-of-session .left ≡ below ws i (c .args .from) + c .args .size
     = elim (c .if-owner-of-session .came) [
-      then-owner-of-session w ↦ omega (arith, w .left-is, c .loop-left-test .taken, h, below-own ws i q (omega (arith, w .if-owner-of-session .taken)))
-    | else-owner-of-session w ↦ omega (arith, w .left-is, h, below-other ws i q (λ x. w .if-owner-of-session .left (o ∙ x)))
+      | then-owner-of-session w ↦ omega (arith, w .left-is, c .loop-left-test .taken, h, below-own ws i q (omega (arith, w .if-owner-of-session .taken)))
+      | else-owner-of-session w ↦ omega (arith, w .left-is, h, below-other ws i q (λ x. w .if-owner-of-session .left (o ∙ x)))
     ] in
     (e, omega (arith, p))
 

@@ -21,7 +21,7 @@ raise-requires c κs =
     record {
       within = omega arith;
       loose = subst (λ (l : List Dry). Loose by-end l n) (sym (take-more-set (b .places) n x room))
-      (subst (λ (m : ℕ). Loose by-end (items b ++ x ∷ []) m) (items-are b) (loose-push by-end (items b) x (heaped-of (items b) (c .pre .ordered))));
+          (subst (λ (m : ℕ). Loose by-end (items b ++ x ∷ []) m) (items-are b) (loose-push by-end (items b) x (heaped-of (items b) (c .pre .ordered))));
     }
 
 pub returns : need.returns

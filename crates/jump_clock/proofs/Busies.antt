@@ -15,7 +15,7 @@ use Rattle.tick_machine.proofs.Lists.{only-yes, only-no}
 use Rattle.slot_clock.specs.Walk.{Tops}
 use Rattle.jump_clock.specs.declared.dry.Dry.{Dry}
 use Rattle.jump_clock.specs.declared.dry.Busy.{Busy}
-use Rattle.jump_clock.specs.Dries.{blank, items, Ordered, over-busy, Holds, Traded, Gained, Lost}
+use Rattle.jump_clock.specs.Dries.{blank, items, Ordered, over-busy, Holds, Traded, Gained, Lost, missed, halfway}
 use Rattle.jump_clock.proofs.Heaps.{top}
 
 -- a busy session counts
@@ -271,3 +271,25 @@ pub first-place : (b : Busy) (v : ℕ) (next : List ℕ) → Holds (items b) v n
 first-place b v next holds ordered some =
     subst (λ (x : Dry). First v next (x .session) (getD (items b) 0 blank .end)) (getD-take (b .count) (b .places) 0 blank some)
     (firstly (items b) v next holds ordered (omega (arith, items-are b)))
+
+-- whether some session's next is v
+hit-none : (v : ℕ) (ns : List ℕ) → ((j : ℕ) → j < length ns → getD ns j 0 ≡ v → ⊥) → total (λ n. only (eqb n v) 1) ns ≡ 0
+hit-none v [] h = refl
+hit-none v (n ∷ ns) h = omega (arith, only-no (eqb n v) 1 (ne-eqb n v (h 0 (omega arith))), hit-none v ns (λ j l. h (suc j) (omega arith)))
+
+hit-some : (v : ℕ) (ns : List ℕ) (j : ℕ) → j < length ns → getD ns j 0 ≡ v → 1 ≤ total (λ n. only (eqb n v) 1) ns
+hit-some v [] j l e = absurd (omega arith)
+hit-some v (n ∷ ns) zero l e = omega (arith, only-yes (eqb n v) 1 (eq-eqb n v e))
+hit-some v (n ∷ ns) (suc j) l e = omega (arith, hit-some v ns j (omega arith) e)
+
+pub missed-all : (v : ℕ) (ns : List ℕ) → ((j : ℕ) → j < length ns → getD ns j 0 ≡ v → ⊥) → missed v ns ≡ 1
+missed-all v ns h = let t = total (λ n. only (eqb n v) 1) ns in only-yes (eqb t 0) 1 (eq-eqb t 0 (hit-none v ns h))
+
+pub missed-none : (v : ℕ) (ns : List ℕ) (j : ℕ) → j < length ns → getD ns j 0 ≡ v → missed v ns ≡ 0
+missed-none v ns j l e = let t = total (λ n. only (eqb n v) 1) ns in let s = hit-some v ns j l e in only-no (eqb t 0) 1 (ne-eqb t 0 (λ z. omega arith))
+
+pub halfway-moved : (c v : ℕ) (ns : List ℕ) → c < v → halfway c v ns ≡ missed v ns
+halfway-moved c v ns l = only-yes (ltb c v) (missed v ns) (lt-ltb c v l)
+
+pub halfway-still : (c : ℕ) (ns : List ℕ) → halfway c c ns ≡ 0
+halfway-still c ns = only-no (ltb c c) (missed c ns) (le-ltb c c (omega arith))

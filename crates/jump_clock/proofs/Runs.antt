@@ -11,7 +11,7 @@ use Rattle.slot_clock.specs.Held.{weights-of, next-of, held-state}
 use Rattle.slot_clock.proofs.Sound.{near}
 use Rattle.slot_clock.proofs.Holding.{sessions-are, nexts-are, sound}
 use Rattle.jump_clock.specs.declared.dry.Busy.{Busy}
-use Rattle.jump_clock.specs.Dries.{blank, items, Ordered, Holds, busy-sessions}
+use Rattle.jump_clock.specs.Dries.{blank, items, Ordered, Holds, busy-sessions, halfway}
 use Rattle.jump_clock.specs.Jumps.{Ahead}
 use Rattle.jump_clock.proofs.Busies.{First, first-place, items-are, busy-count}
 
@@ -38,3 +38,8 @@ pub sessions-busy : (h : Held) (b : Busy) (v : ℕ) (next : List ℕ) → h .cur
 unfolding held-state
 sessions-busy h b v next e f holds =
     ap (λ x. total (λ n. only (ltb x n) 1) (next-of h)) e ∙ ap (λ y. total (λ n. only (ltb v n) 1) y) f ∙ sym (busy-count (items b) v next holds) ∙ items-are b
+
+pub halfway-state : (h exit : Held) (v : ℕ) (next : List ℕ) → exit .cursor ≡ v → next-of exit ≡ next
+    → halfway (held-state h .cursor) (held-state exit .cursor) (held-state exit .next) ≡ halfway (h .cursor) v next
+unfolding held-state
+halfway-state h exit v next e f = ap (λ x. halfway (h .cursor) x (next-of exit)) e ∙ ap (halfway (h .cursor) v) f

@@ -3,7 +3,7 @@ use mathlib.Core.Path.{_≡_}
 use mathlib.Core.Bool.{Bool}
 use mathlib.Core.List.{List, [], _∷_}
 use Prim.Native.Nat.{ℕ, suc, _+_, _<_, _≤_}
-use lib.Dec.{ltb}
+use lib.Dec.{ltb, eqb}
 use lib.ListN.{length, getD, take}
 use Rattle.tick_machine.specs.Lists.{total, only}
 use Rattle.heap_order.specs.Heaps.{parent}
@@ -50,3 +50,11 @@ Lost xs x ys = (f : Dry → ℕ) → total f ys + f x ≡ total f xs
 -- how many sessions are busy
 abbrev pub busy-sessions : SlotState → ℕ
 busy-sessions s = total (λ n. only (ltb (s .cursor) n) 1) (s .next)
+
+-- 1 if no session's next is v, else 0
+abbrev pub missed : ℕ → List ℕ → ℕ
+missed v next = only (eqb (total (λ n. only (eqb n v) 1) next) 0) 1
+
+-- 1 if V has moved from c to v and the slot served last was not its session's last, else 0
+abbrev pub halfway : ℕ → ℕ → List ℕ → ℕ
+halfway c v next = only (ltb c v) (missed v next)

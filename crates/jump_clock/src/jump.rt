@@ -8,7 +8,7 @@ ghost use Rattle.std.specs.declared.result.Result.the-variants.{Ok, Err};
 ghost use Rattle.slot_clock.specs.Calls.{run-answer, run-after};
 ghost use Rattle.slot_clock.specs.Walk.{ticks-cursor};
 ghost use Rattle.slot_clock.specs.Held.{weights-of, next-of, held-state};
-ghost use Rattle.jump_clock.specs.Dries.{items, Ordered, Holds, busy-sessions};
+ghost use Rattle.jump_clock.specs.Dries.{items, Ordered, Holds, busy-sessions, missed, halfway};
 use crate::dry::Busy;
 use crate::dry::Dry;
 use crate::jumping::jump;
@@ -36,7 +36,9 @@ fn once(held: &Held, busy: &mut Busy, v: u64, left: u64) -> (u64, u64)
     ensures less { λ r. ⌜ r .1 < left ⌝ }
     ensures ordered { λ _. ⌜ Ordered (items (now (busy .exit))) ⌝ }
     ensures holds { λ r. ⌜ Holds (items (now (busy .exit))) (r .0) (next-of (now (held .entry))) ⌝ }
-    ensures fewer { λ r. ⌜ (now (busy .exit) .count ≤ now (busy .entry) .count) × (1 ≤ r .1 → now (busy .exit) .count < now (busy .entry) .count) ⌝ }
+    ensures ahead { λ r. ⌜ v < r .0 ⌝ }
+    ensures turns { λ r. ⌜ now (busy .exit) .count + 1 ≡ now (busy .entry) .count + missed (r .0) (next-of (now (held .entry))) ⌝ }
+    ensures rest { λ r. ⌜ (1 ≤ r .1 → missed (r .0) (next-of (now (held .entry))) ≡ 0) ⌝ }
 {
     let first = busy.places[0].session;
     let (to, rest) = jump(held.weights(), held.round, held.nexts(), v, first, left);
@@ -54,7 +56,7 @@ fn run_on(held: &Held, busy: &mut Busy, ticks: u64) -> (u64, u64)
     ensures is { λ r. ⌜ r .0 ≡ ticks-cursor (weights-of (now (held .entry))) (next-of (now (held .entry))) ticks (now (held .entry) .cursor) ⌝ }
     ensures ordered { λ _. ⌜ Ordered (items (now (busy .exit))) ⌝ }
     ensures holds { λ r. ⌜ Holds (items (now (busy .exit))) (r .0) (next-of (now (held .entry))) ⌝ }
-    ensures jumps { λ r. ⌜ r .1 + now (busy .exit) .count ≤ now (busy .entry) .count + 1 ⌝ }
+    ensures jumps { λ r. ⌜ r .1 + now (busy .exit) .count ≡ now (busy .entry) .count + halfway (now (held .entry) .cursor) (r .0) (next-of (now (held .entry))) ⌝ }
 {
     let mut v = held.cursor;
     let mut left = ticks;
@@ -84,10 +86,11 @@ fn note(held: &Held, busy: &mut Busy, session: usize, end: u64)
 }
 
 impl JumpClock {
-    // Runs, and answers in how many jumps: one for each session that runs dry in the ticks, and at most one more.
+    // Runs, and answers in how many jumps: one for each session that runs dry in the ticks, and one more if the slot served
+    // last was not its session's last.
     pub fn run_told(&mut self, ticks: u64) -> Result<u64, ClockRefusal>
         ensures after { λ _. ⌜ held-state (now (self .exit) .held) ≡ run-after (held-state (now (self .entry) .held)) ticks ⌝ }
-        ensures answer { λ r. ⌜ Cases r (λ j. (run-answer (held-state (now (self .entry) .held)) ticks ≡ Ok tt) × (j + busy-sessions (held-state (now (self .exit) .held)) ≤ busy-sessions (held-state (now (self .entry) .held)) + 1)) (λ e. (run-answer (held-state (now (self .entry) .held)) ticks ≡ Err e) × (now (self .exit) ≡ now (self .entry))) ⌝ }
+        ensures answer { λ r. ⌜ Cases r (λ j. (run-answer (held-state (now (self .entry) .held)) ticks ≡ Ok tt) × (j + busy-sessions (held-state (now (self .exit) .held)) ≡ busy-sessions (held-state (now (self .entry) .held)) + halfway (held-state (now (self .entry) .held) .cursor) (held-state (now (self .exit) .held) .cursor) (held-state (now (self .exit) .held) .next))) (λ e. (run-answer (held-state (now (self .entry) .held)) ticks ≡ Err e) × (now (self .exit) ≡ now (self .entry))) ⌝ }
     {
         self.held.lasts(ticks)?;
         let (to, jumps) = run_on(&self.held, &mut self.busy, ticks);

@@ -13,6 +13,8 @@ mod tests {
     use crate::tables;
     use jump_clock::jump::ByJumps;
     use jump_clock::jump::JumpClock;
+    use slot_clock::clock::SlotClock;
+    use slot_clock::refusal::ClockRefusalDebug;
     use slot_clock::step::BySteps;
     use slot_clock::step::StepClock;
     use std::test::*;
@@ -158,6 +160,20 @@ mod tests {
     #[test]
     fn sixty_four_sessions() -> Result<(), Fail> {
         both(&SIXTY_FOUR, &tables::SIXTY_FOUR_SESSIONS)
+    }
+
+    // A jump for each session that runs dry, and one more if the last slot served was not its session's last.
+    #[test]
+    fn as_many_jumps_as_run_dry() -> Result<(), Fail> {
+        let mut clock = ByJumps::make(&[1, 2, 3])?;
+        let _first = clock.add(0, 2)?;
+        let _second = clock.add(1, 6)?;
+        let _third = clock.add(2, 60000)?;
+        check_eq(clock.run_told(0)?, 0)?;
+        check_eq(clock.run_told(12)?, 2)?;
+        check_eq(clock.run_told(50000)?, 2)?;
+        check_eq(clock.run_told(1000000)?, 1)?;
+        check_eq(clock.run_told(1000000)?, 0)
     }
 
     #[test]

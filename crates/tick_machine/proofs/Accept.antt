@@ -1,25 +1,25 @@
 -- An accepted packet keeps what the law's induction keeps. Assumes nothing.
-use mathlib.Core.Path.{_≡_, refl, sym, ap, subst, _∙_}
+use mathlib.Core.Path.{_≡_, refl, sym, subst, _∙_}
 use mathlib.Core.List.{List, [], _∷_}
 use mathlib.Core.Logic.{_⊎_, inl, inr, ⊎-elim}
 use Prim.Native.Nat.{ℕ, _+_, _-_, _≤_, _<_, max}
 use native.Mathlib.Omega.{arith}
 use lib.Dec.{ltb, leb, eqb}
-use lib.ListN.{length, getD, set, length-set}
+use lib.ListN.{length, getD, length-set}
 use Rattle.std.proofs.shelf.Ways.{tells}
 use Rattle.std.proofs.shelf.Tests.{lt-leb}
-use Rattle.tick_machine.specs.Lists.{total, only, All, none, more, Rising, insert, final}
+use Rattle.tick_machine.specs.Lists.{only, All, more, final}
 use Rattle.tick_machine.specs.Slots.{owner}
-use Rattle.tick_machine.specs.Round.{Round, granted}
-use Rattle.tick_machine.specs.Sender.{Packet, Departed, Line, Sender}
+use Rattle.tick_machine.specs.Round.{granted}
+use Rattle.tick_machine.specs.Sender.{Packet}
 use Rattle.tick_machine.specs.Machine.{Config, packet}
 use Rattle.tick_machine.specs.Story.{Served, Story, accepting}
-use Rattle.tick_machine.specs.Law.{On, Unsent, Ever}
-use Rattle.tick_machine.proofs.Lists.{all-map, all-zip, all-insert, rising-insert, total-insert, total-insert-all, length-insert-all, only-no, only-at-most, only-mono}
+use Rattle.tick_machine.specs.Law.{Unsent}
+use Rattle.tick_machine.proofs.Lists.{all-map, all-insert, rising-insert, total-insert, total-insert-all, length-insert-all, only-no, only-at-most, only-mono}
 use Rattle.tick_machine.proofs.Slots.{Fresh}
-use Rattle.tick_machine.proofs.Known.{Known, known-apart, known-more, known-new}
+use Rattle.tick_machine.proofs.Known.{known-apart, known-more, known-new}
 use Rattle.tick_machine.proofs.OwedSlots.{add-shown}
-use Rattle.tick_machine.proofs.Work.{pending-of, unsent-map, unsent-zip, unsent-insert}
+use Rattle.tick_machine.proofs.Work.{on-zip, unsent-map, unsent-zip, unsent-insert}
 use Rattle.tick_machine.proofs.Serving.{upto, upto-all, got-own, got-above}
 use Rattle.tick_machine.proofs.Good.{later, Backlog, Sane, Open, Closed, Stage, Good}
 
@@ -28,7 +28,8 @@ none-later : (i s : ℕ) (ws : List Packet) → All (λ p. p .session ≡ i → 
 none-later i s [] h = refl
 none-later i s (p ∷ ws) (more h t) = let ih = none-later i s ws t in grind (arith, tells)
 
-module _ (c : Config) (y : Story) (g : Good c y) (i n tag : ℕ) (weights : All (λ w. 1 ≤ w) (c .weights)) (i-in : i < length (c .weights)) (n-some : 1 ≤ n) (n-fits : n ≤ c .largest)
+module _ (c : Config) (y : Story) (g : Good c y) (i n tag : ℕ) (weights : All (λ w. 1 ≤ w) (c .weights))
+    (i-in : i < length (c .weights)) (n-some : 1 ≤ n) (n-fits : n ≤ c .largest)
     (f : Fresh (c .weights) i n (max (y .machine .round .cursor) (getD (y .machine .round .next) i 0)) (granted (c .weights) i n (y .machine .round))) where
   low : ℕ
   low = max (y .machine .round .cursor) (getD (y .machine .round .next) i 0)
@@ -123,14 +124,29 @@ module _ (c : Config) (y : Story) (g : Good c y) (i n tag : ℕ) (weights : All 
         order = rising-insert (λ p. p .stamp) it (s .waiting)
             (all-map (g .sane .waits) (λ p k. known-apart (c .weights) i n low got f (r .next) (omega arith) t (p .stamp) (f .stamp) (k .known)))
             (g .order);
-        sane = unsent-insert it s (record { some = n-some; short = omega arith; mine = f .stamp .1; known = known-new (c .weights) i n low got f (r .next) i-in′ t (omega arith) (f .stamp .1) }) (unsent-map (g .sane) (λ p k. record { some = k .some; short = omega (arith, k .short); mine = k .mine; known = known-more (c .weights) i n low got f (r .next) (omega arith) i-in′ (p .stamp) (k .known) }));
+        first = on-zip (g .sane .on) (g .first) (λ p k h.
+            all-insert (λ q. q .stamp) it (s .waiting) (λ (e : i ≡ p .session). omega (arith, below p k e, f .stamp .0)) h);
+        sane = unsent-insert it s
+            (record {
+              some = n-some;
+              short = omega arith;
+              mine = f .stamp .1;
+              known = known-new (c .weights) i n low got f (r .next) i-in′ t (omega arith) (f .stamp .1);
+            })
+            (unsent-map (g .sane) (λ p k. record {
+              some = k .some;
+              short = omega (arith, k .short);
+              mine = k .mine;
+              known = known-more (c .weights) i n low got f (r .next) (omega arith) i-in′ (p .stamp) (k .known);
+            }));
         small = omega (arith, g .small);
         gone = all-map (g .gone) (λ x h. (h .0, omega (arith, h .1)));
         backlog = accept-backlog;
         stage = unsent-insert it s (inl accept-new) staged;
         prompt = record {
           gone = all-map (g .prompt .gone) (λ x h. quicker (x .packet) (x .left) h);
-          unsent = unsent-insert it s (all-map (g .past) (λ b l e. absurd (omega (arith, f .stamp .0)))) (unsent-map (g .prompt .unsent) (λ p h. quicker p (y .machine .clock) h));
+          unsent = unsent-insert it s (all-map (g .past) (λ b l e. absurd (omega (arith, f .stamp .0))))
+              (unsent-map (g .prompt .unsent) (λ p h. quicker p (y .machine .clock) h));
         };
         timely = record { gone = g .timely .gone; unsent = unsent-insert it s (omega arith) (g .timely .unsent) };
       }

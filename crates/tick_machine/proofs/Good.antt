@@ -1,28 +1,32 @@
 -- What the law's induction keeps true of a story. Assumes nothing.
 use mathlib.Core.Path.{_≡_, refl}
-use mathlib.Core.List.{List, [], _∷_}
-use mathlib.Core.Logic.{_⊎_, inl, inr, ⊎-elim}
+use mathlib.Core.List.{List}
+use mathlib.Core.Logic.{_⊎_, inl, inr}
 use Prim.Native.Nat.{ℕ, _+_, _-_, _≤_, _<_}
 use native.Mathlib.Omega.{arith}
 use lib.Dec.{ltb, eqb}
 use lib.ListN.{length, length-replicate}
-use Rattle.tick_machine.specs.Lists.{total, only, All, none, more, Rising}
+use Rattle.tick_machine.specs.Lists.{total, only, All, none, Rising}
 use Rattle.tick_machine.specs.Slots.{owner}
 use Rattle.tick_machine.specs.Sender.{Packet, Departed}
 use Rattle.tick_machine.specs.Desk.{Desk}
 use Rattle.tick_machine.specs.Machine.{Config, with-desk}
 use Rattle.tick_machine.specs.Story.{Served, Story, begun}
-use Rattle.tick_machine.specs.Law.{On, idle, busy, Unsent, Ever, Prompt, Timely}
+use Rattle.tick_machine.specs.Law.{On, idle, Unsent, Prompt, Timely}
 use Rattle.tick_machine.specs.Books.{Same-work, Owed-by-next, Under-way}
 use Rattle.tick_machine.proofs.Lists.{all-map}
 use Rattle.tick_machine.proofs.Known.{times, Known}
 use Rattle.tick_machine.proofs.OwedSlots.{Tidy, shown-tidy, shown-fresh}
-use Rattle.tick_machine.proofs.Work.{due, pending-of, unsent-map}
+use Rattle.tick_machine.proofs.Work.{pending-of, unsent-map}
 use Rattle.tick_machine.proofs.Serving.{upto, own, own-above}
 
 -- the bytes of the waiting packets of session i with stamps above s
 abbrev pub later : ℕ → ℕ → List Packet → ℕ
 later i s ws = total (λ p. only (eqb (p .session) i) (only (ltb s (p .stamp)) (p .size))) ws
+
+-- each waiting packet of p's session has a later stamp
+abbrev pub First : List Packet → Packet → Type 0
+First ws p = All (λ q. q .session ≡ p .session → p .stamp < q .stamp) ws
 
 -- what the law turns on: for every x, the bytes still to be sent that are due by x are fewer than Lmax more than the slots owed up to x
 abbrev pub Backlog : Story → Type 0
@@ -54,12 +58,13 @@ abbrev pub Stage : Config → Story → Packet → Type 0
 Stage c y p = Open c y p ⊎ Closed c y p
 
 pub record Good (c : Config) (y : Story) : Type 0 where
-  pub shown : Owed-by-next c y
+  pub shown : Owed-by-next c (y .machine)
   pub many : length (y .machine .round .next) ≡ length (c .weights)
-  pub work : Same-work c y
+  pub work : Same-work c (y .machine)
   pub past : All (λ (b : Served). b .slot < y .machine .round .cursor) (y .served)
   pub under-way : Under-way (y .machine .sender .line)
   pub order : Rising (λ p. p .stamp) (y .machine .sender .waiting)
+  pub first : On (First (y .machine .sender .waiting)) (y .machine .sender .line)
   pub sane : Unsent (Sane c (y .machine .round .next) (y .longest)) (y .machine .sender)
   pub small : y .longest ≤ c .largest
   pub gone : All (λ (d : Departed). (d .left ≤ y .machine .clock) × (1 ≤ y .longest)) (y .gone)
@@ -85,6 +90,7 @@ begun-good c = record {
   past = none;
   under-way = tt;
   order = tt;
+  first = idle;
   sane = record { on = idle; waits = none };
   small = omega arith;
   gone = none;
@@ -111,6 +117,7 @@ desk-good c f y g = record {
   past = g .past;
   under-way = g .under-way;
   order = g .order;
+  first = g .first;
   sane = g .sane;
   small = g .small;
   gone = g .gone;

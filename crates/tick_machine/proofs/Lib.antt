@@ -10,3 +10,13 @@ pub mod Serving
 pub mod Good
 pub mod Tick
 pub mod Accept
+pub mod Figures
+pub mod Level
+pub mod Bound
+pub mod Places
+pub mod Fits
+pub mod Histories
+pub mod Placed
+pub mod Small
+pub mod Stands
+pub mod Sharp

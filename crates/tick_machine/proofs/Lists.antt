@@ -1,6 +1,6 @@
 -- What the words on lists give. Assumes nothing.
 use mathlib.Core.Path.{_≡_, refl}
-use mathlib.Core.List.{List, [], _∷_}
+use mathlib.Core.List.{List, [], _∷_, _++_}
 use mathlib.Core.Bool.{Bool, true, false}
 use Prim.Native.Nat.{ℕ, suc, _+_, _≤_}
 use native.Mathlib.Omega.{arith}
@@ -20,6 +20,10 @@ module _ {X : Type 0} where
   pub all-map : {P Q : X → Type 0} {xs : List X} → All P xs → ((x : X) → P x → Q x) → All Q xs
   all-map none f = none
   all-map (more h t) f = more (f _ h) (all-map t f)
+
+  pub all-push : {P : X → Type 0} (xs : List X) (x : X) → All P xs → P x → All P (xs ++ x ∷ [])
+  all-push [] x h p = more p none
+  all-push (y ∷ ys) x h p = more (head h) (all-push ys x (tail h) p)
 
   pub all-zip : {P Q R : X → Type 0} {xs : List X} → All P xs → All Q xs → ((x : X) → P x → Q x → R x) → All R xs
   all-zip none none f = none
@@ -50,7 +54,8 @@ total-insert-all f (q ∷ qs) os = omega (arith, total-insert (λ s. s) f q (ins
 pub length-insert : {X : Type 0} (key : X → ℕ) (x : X) (xs : List X) → length (insert key x xs) ≡ suc (length xs)
 length-insert key x [] = refl
 length-insert key x (y ∷ ys) =
-    cond-both (ltb (key x) (key y)) (x ∷ y ∷ ys) (y ∷ insert key x ys) (λ zs. length zs ≡ suc (length (y ∷ ys))) (λ _. refl) (λ _. omega (arith, length-insert key x ys))
+    cond-both (ltb (key x) (key y)) (x ∷ y ∷ ys) (y ∷ insert key x ys) (λ zs. length zs ≡ suc (length (y ∷ ys)))
+    (λ _. refl) (λ _. omega (arith, length-insert key x ys))
 
 pub length-insert-all : (qs os : List ℕ) → length (insert-all qs os) ≡ length qs + length os
 length-insert-all [] os = omega arith

@@ -16,6 +16,7 @@ use Rattle.tick_machine.specs.Round.{Round, fresh-round, granted, stamp, grant
 use Rattle.tick_machine.specs.Owed.{from, kept, greatest, owed-slots, shown-round}
 use Rattle.tick_machine.proofs.Lists.{head, tail, all-map, all-zip, all-insert-all, rising-insert-all, total-insert-all, only-yes, only-no}
 use Rattle.tick_machine.proofs.Slots.{Fresh, fresh}
+use Rattle.tick_machine.proofs.Serving.{serve-next}
 use Rattle.tick_machine.proofs.Known.{times, Known, known-apart, known-more, known-new}
 
 abbrev pub There : ℕ → List ℕ → Type 0
@@ -40,7 +41,8 @@ there-later : (o q : ℕ) (os : List ℕ) → o < q → There q (o ∷ os) → T
 there-later o q os l t = grind (arith, tells)
 
 -- two rising lists of the same slots are one
-pub rising-same : (xs ys : List ℕ) → Rising (λ s. s) xs → Rising (λ s. s) ys → ((q : ℕ) → There q xs → There q ys) → ((q : ℕ) → There q ys → There q xs) → xs ≡ ys
+pub rising-same : (xs ys : List ℕ) → Rising (λ s. s) xs → Rising (λ s. s) ys
+    → ((q : ℕ) → There q xs → There q ys) → ((q : ℕ) → There q ys → There q xs) → xs ≡ ys
 rising-same [] [] r s f g = refl
 rising-same [] (y ∷ ys) r s f g = absurd (omega (arith, g y (there-head y ys)))
 rising-same (x ∷ xs) [] r s f g = absurd (omega (arith, f x (there-head x xs)))
@@ -94,14 +96,17 @@ module _ (ws : List ℕ) (v : ℕ) (next : List ℕ) where
   shown-all : All (λ q. (v ≤ q) × Known ws next q) (shown-round ws v next .owed)
   shown-all =
       let test : ℕ → Bool = λ q. ltb q (getD next (owner ws q) 0) in
-      all-map (kept-all test (λ q. v ≤ q) (from v (greatest next - v)) (from-above v (greatest next - v))) (λ q h. (h .0, ltb-true q (getD next (owner ws q) 0) (h .1)))
+      all-map (kept-all test (λ q. v ≤ q) (from v (greatest next - v)) (from-above v (greatest next - v)))
+      (λ q h. (h .0, ltb-true q (getD next (owner ws q) 0) (h .1)))
 
   shown-there : (q : ℕ) → v ≤ q → Known ws next q → There q (shown-round ws v next .owed)
   shown-there q l k =
-      kept-there (λ q. ltb q (getD next (owner ws q) 0)) v (greatest next - v) q l (omega (arith, greatest-above next (owner ws q))) (lt-ltb q (getD next (owner ws q) 0) k)
+      kept-there (λ q. ltb q (getD next (owner ws q) 0)) v (greatest next - v) q l
+      (omega (arith, greatest-above next (owner ws q))) (lt-ltb q (getD next (owner ws q) 0) k)
 
 -- serving moves the cursor past the lowest owed slot
-pub shown-serve : (ws : List ℕ) (v : ℕ) (next : List ℕ) → serve (shown-round ws v next .owed) (shown-round ws v next) ≡ shown-round ws (serve (shown-round ws v next .owed) (shown-round ws v next) .cursor) next
+pub shown-serve : (ws : List ℕ) (v : ℕ) (next : List ℕ)
+    → serve (shown-round ws v next .owed) (shown-round ws v next) ≡ shown-round ws (serve (shown-round ws v next .owed) (shown-round ws v next) .cursor) next
 shown-serve ws v next = go (shown-round ws v next .owed) refl
   where
     go : (os : List ℕ) → shown-round ws v next .owed ≡ os → serve os (shown-round ws v next) ≡ shown-round ws (serve os (shown-round ws v next) .cursor) next
@@ -136,7 +141,9 @@ shown-grant ws i n v next l f =
     (all-map (f .mine) (λ s m. all-map (shown-all ws v next) (λ o k. known-apart ws i n low got f next (omega arith) s o m (k .1))))
     (shown-rising ws v next) in
     let all : All Holds (insert-all got old)
-    = all-insert-all got old (all-zip (f .mine) (f .top) (λ s m u. (omega (arith, m .0), known-new ws i n low got f next l s u (m .1)))) (all-map (shown-all ws v next) (λ s k. (k .0, known-more ws i n low got f next (omega arith) l s (k .1)))) in
+    = all-insert-all got old
+    (all-zip (f .mine) (f .top) (λ s m u. (omega (arith, m .0), known-new ws i n low got f next l s u (m .1))))
+    (all-map (shown-all ws v next) (λ s k. (k .0, known-more ws i n low got f next (omega arith) l s (k .1)))) in
     ap (λ os. record { cursor = v; owed = os; next = next′ })
     (rising-same (insert-all got old) new up (shown-rising ws v next′)
     (λ s h. let k = all-there Holds s (insert-all got old) all h in shown-there ws v next′ s (k .0) (k .1))
@@ -194,15 +201,14 @@ pub tick-shown : (ws : List ℕ) (r : Round) → r ≡ shown-round ws (r .cursor
     → round-tick r ≡ shown-round ws (round-tick r .cursor) (round-tick r .next)
 tick-shown ws r e = subst (λ x. round-tick x ≡ shown-round ws (round-tick x .cursor) (round-tick x .next)) (sym e) (go (r .cursor) (r .next))
   where
-    keeps : (os : List ℕ) (x : Round) → x .next ≡ serve os x .next
-    keeps [] x = refl
-    keeps (q ∷ qs) x = refl
-
-    go : (v : ℕ) (next : List ℕ) → round-tick (shown-round ws v next) ≡ shown-round ws (round-tick (shown-round ws v next) .cursor) (round-tick (shown-round ws v next) .next)
+    go : (v : ℕ) (next : List ℕ) → round-tick (shown-round ws v next)
+        ≡ shown-round ws (round-tick (shown-round ws v next) .cursor) (round-tick (shown-round ws v next) .next)
     go v next =
         shown-serve ws v next
-        ∙ ap (shown-round ws (round-tick (shown-round ws v next) .cursor)) (keeps (shown-round ws v next .owed) (shown-round ws v next))
+        ∙ ap (shown-round ws (round-tick (shown-round ws v next) .cursor)) (serve-next (shown-round ws v next .owed) (shown-round ws v next))
 
 pub add-shown : (ws : List ℕ) (i n : ℕ) (r : Round) → All (λ w. 1 ≤ w) ws → i < length ws → length (r .next) ≡ length ws → 1 ≤ n
     → r ≡ shown-round ws (r .cursor) (r .next) → add ws i n r ≡ shown-round ws (add ws i n r .cursor) (add ws i n r .next)
-add-shown ws i n r h l m s e = subst (λ x. add ws i n x ≡ shown-round ws (add ws i n x .cursor) (add ws i n x .next)) (sym e) (shown-add ws i n (r .cursor) (r .next) h l m s)
+add-shown ws i n r h l m s e =
+    subst (λ x. add ws i n x ≡ shown-round ws (add ws i n x .cursor) (add ws i n x .next)) (sym e)
+    (shown-add ws i n (r .cursor) (r .next) h l m s)

@@ -1,14 +1,13 @@
 -- The two facts of ownership, for sessions that own their positions in blocks. Nothing else looks into `holder`. Assumes nothing.
-use mathlib.Core.Path.{_≡_, refl, sym, ap, subst, _∙_}
+use mathlib.Core.Path.{_≡_, ap, _∙_}
 use mathlib.Core.List.{List, [], _∷_}
-use mathlib.Core.Bool.{Bool, true, false}
+use mathlib.Core.Bool.{Bool}
 use mathlib.Core.Logic.{⊎-elim}
 use Prim.Native.Nat.{ℕ, zero, suc, _+_, _-_, _≤_, _<_}
 use native.Mathlib.Omega.{arith}
 use lib.Dec.{ltb, eqb, eqb·zero-suc, eqb·suc-zero, eqb·suc-suc}
-use lib.ListN.{length, getD}
 use Rattle.std.proofs.shelf.Tests.{lt-ltb, le-ltb, cond-true, cond-false, cases-lt}
-use Rattle.tick_machine.specs.Lists.{total, only, count}
+use Rattle.tick_machine.specs.Lists.{count}
 use Rattle.tick_machine.specs.Slots.{round-length, holder, Each-position-has-one-owner, Each-session-owns-its-weight}
 use Rattle.tick_machine.proofs.Counts.{count-same, count-all, count-none, count-split}
 

@@ -8,7 +8,7 @@ use lib.Dec.{ltb, leb, eqb}
 use lib.ListN.{length}
 use Rattle.std.proofs.shelf.Ways.{tells}
 use Rattle.std.proofs.shelf.Tests.{cases-order}
-use Rattle.tick_machine.specs.Lists.{total, only, All, none, more, Rising}
+use Rattle.tick_machine.specs.Lists.{total, only, All, more, Rising}
 use Rattle.tick_machine.specs.Slots.{owner}
 use Rattle.tick_machine.specs.Round.{Round, serve, served-slot}
 use Rattle.tick_machine.specs.Story.{Served, serving}

@@ -1,6 +1,6 @@
 -- The slots that a packet gets: rising, owned by its session, none below the place that they are looked for from, none left out. Assumes nothing.
 use mathlib.Core.Path.{_≡_, refl, ap, _∙_}
-use mathlib.Core.List.{List, [], _∷_}
+use mathlib.Core.List.{List}
 use mathlib.Core.Bool.{Bool, true}
 use mathlib.Core.Logic.{⊎-elim}
 use Prim.Native.Nat.{ℕ, zero, suc, _+_, _≤_, _<_}
@@ -11,7 +11,7 @@ use Rattle.std.proofs.shelf.Ways.{tells}
 use Rattle.std.proofs.shelf.Tests.{eq-eqb, eqb-true, cond-both, cases-lt, cases-eq, both-ways}
 use Rattle.tick_machine.specs.Lists.{total, only, All, none, more, Rising, final}
 use Rattle.tick_machine.specs.Slots.{round-length, owner, lowest, slots, own-slots}
-use Rattle.tick_machine.proofs.Lists.{head, tail, all-map, final-greatest, final-all, final-there}
+use Rattle.tick_machine.proofs.Lists.{all-map, final-greatest, final-all, final-there}
 use Rattle.tick_machine.proofs.Windows.{reach}
 
 module _ (test : ℕ → Bool) where

@@ -1,26 +1,32 @@
 -- A tick keeps what the law's induction keeps. Assumes nothing.
-use mathlib.Core.Path.{_≡_, refl, sym, ap, subst, _∙_}
+use mathlib.Core.Path.{_≡_, sym, ap, subst, _∙_}
 use mathlib.Core.List.{List, [], _∷_}
 use mathlib.Core.Logic.{_⊎_, inl, inr, ⊎-elim}
 use Prim.Native.Nat.{ℕ, _+_, _-_, _≤_, _<_}
 use native.Mathlib.Omega.{arith}
 use lib.Dec.{leb, eqb}
 use lib.ListN.{length}
-use Rattle.tick_machine.specs.Lists.{only, All, none, more, Rising}
+use Rattle.tick_machine.specs.Lists.{only, All, Rising}
 use Rattle.tick_machine.specs.Slots.{owner}
-use Rattle.tick_machine.specs.Round.{Round, serve, round-tick, served-slot}
-use Rattle.tick_machine.specs.Sender.{Packet, Departed, Line, Sender, send}
+use Rattle.tick_machine.specs.Round.{serve}
+use Rattle.tick_machine.specs.Sender.{Packet, Line, free, sending, send}
 use Rattle.tick_machine.specs.Machine.{Config}
-use Rattle.tick_machine.specs.Story.{Served, Story, serving, ticking}
-use Rattle.tick_machine.specs.Law.{On, Unsent, Ever}
+use Rattle.tick_machine.specs.Story.{Served, Story, ticking}
+use Rattle.tick_machine.specs.Law.{On, idle, Unsent}
 use Rattle.tick_machine.proofs.Lists.{all-map, all-zip, only-at-most}
-use Rattle.tick_machine.proofs.OwedSlots.{Tidy, tick-shown}
-use Rattle.tick_machine.proofs.Work.{pending-of, unsent-map, unsent-zip, send-pending, send-work, send-unsent, send-gone, send-waiting, send-under-way, live}
+use Rattle.tick_machine.proofs.OwedSlots.{tick-shown}
+use Rattle.tick_machine.proofs.Work.{line, onward-on, pending-of, unsent-map, unsent-zip, send-pending, send-work, send-unsent, send-gone, send-waiting, send-under-way, live}
 use Rattle.tick_machine.proofs.Serving.{serve-total, serve-length, serve-served, serve-cursor, serve-past, serve-next, Still, Done, serve-open}
-use Rattle.tick_machine.proofs.Good.{later, Backlog, Sane, Open, Closed, Stage, Good, tidy, sizes, sizes-some}
+use Rattle.tick_machine.proofs.Good.{First, later, Backlog, Sane, Stage, Good, tidy, sizes, sizes-some}
 
 send-later : (i s clock : ℕ) (l : Line) (ws : List Packet) → later i s (send clock l ws .waiting) ≤ later i s ws
 send-later i s clock l ws = send-waiting (λ vs. later i s vs ≤ later i s ws) clock l ws (omega arith) (λ p vs h. omega arith)
+
+-- the packet that the line takes has the least stamp
+send-first : (clock : ℕ) (l : Line) (ws : List Packet) → Rising (λ p. p .stamp) ws → On (First ws) l → On (First (send clock l ws .waiting)) (send clock l ws .line)
+send-first clock free [] r h = idle
+send-first clock free (p ∷ ws) r h = onward-on p clock (p .size - 1) (all-map (r .0) (λ q l e. l))
+send-first clock (sending p started n) ws r h = onward-on p started (n - 1) (line h)
 
 module _ (c : Config) (y : Story) (g : Good c y) where
   tick-backlog : Backlog (ticking c y)
@@ -122,6 +128,7 @@ module _ (c : Config) (y : Story) (g : Good c y) where
         past = serve-past (now + 1) (y .machine .round .owed) (y .machine .round) (y .served) (tidy g .ahead) (g .past);
         under-way = send-under-way now (s .line) (s .waiting) (g .under-way) (sizes-some g);
         order = send-waiting (Rising (λ p. p .stamp)) now (s .line) (s .waiting) (g .order) (λ p vs h. h .1);
+        first = send-first now (s .line) (s .waiting) (g .order) (g .first);
         sane = subst (λ next. Unsent (Sane c next (y .longest)) (ticking c y .machine .sender)) (serve-next (y .machine .round .owed) (y .machine .round))
             (send-unsent now s (g .sane));
         small = g .small;

@@ -1,5 +1,5 @@
 -- In any round of slots a session has as many as its weight; so from any slot on it has one within a round. Assumes nothing.
-use mathlib.Core.Path.{_≡_, refl, sym, ap, _∙_}
+use mathlib.Core.Path.{_≡_, sym, ap, _∙_}
 use mathlib.Core.List.{List, [], _∷_}
 use mathlib.Core.Bool.{Bool, true}
 use Prim.Native.Nat.{ℕ, zero, suc, _+_, _*_, _≤_, _<_}
@@ -7,7 +7,6 @@ use native.Mathlib.Omega.{arith}
 use native.Mathlib.Nat.{zero-add, suc-add, add-mod-right, mod-eq-of-lt, mod-lt}
 use lib.Dec.{eqb}
 use lib.ListN.{length, getD}
-use Rattle.std.proofs.shelf.Tests.{eqb-true}
 use Rattle.tick_machine.specs.Lists.{only, count, All}
 use Rattle.tick_machine.specs.Slots.{round-length, holder, owner}
 use Rattle.tick_machine.proofs.Lists.{head, tail}
@@ -66,5 +65,6 @@ module _ (ws : List ℕ) (i : ℕ) (l : i < length ws) where
       omega (arith, ap (count f) e, a-round (a + k * n), rounds a k)
 
 -- from any slot on, a session has one within a round
-pub reach : (ws : List ℕ) (i q : ℕ) → All (λ w. 1 ≤ w) ws → i < length ws → (s : ℕ) × (q ≤ s) × (s < q + round-length ws) × (eqb (owner ws s) i ≡ true)
+pub reach : (ws : List ℕ) (i q : ℕ) → All (λ w. 1 ≤ w) ws → i < length ws
+    → (s : ℕ) × (q ≤ s) × (s < q + round-length ws) × (eqb (owner ws s) i ≡ true)
 reach ws i q h l = count-hit (λ s. eqb (owner ws s) i) q (round-length ws) (omega (arith, a-round ws i l q, weight-some ws i h l))

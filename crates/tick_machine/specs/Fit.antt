@@ -1,9 +1,10 @@
 -- The limits of a configuration. Assumes nothing.
-use Prim.Native.Nat.{ℕ, _≤_}
+use Prim.Native.Nat.{_≤_}
 use lib.ListN.{length}
 use Rattle.tick_machine.specs.Lists.{All}
 use Rattle.tick_machine.specs.Slots.{round-length}
 use Rattle.tick_machine.specs.Machine.{Config}
+use Rattle.tick_machine.specs.Law.{Drafted}
 
 -- what every link's configuration keeps
 pub record Fit (c : Config) : Type 0 where
@@ -16,3 +17,6 @@ pub record Fit (c : Config) : Type 0 where
   pub sessions : length (c .weights) ≤ 64
   pub weights : All (λ w. 1 ≤ w) (c .weights)
   pub round : round-length (c .weights) ≤ 4096
+
+abbrev pub Drafts-keep-the-limits : Type 0
+Drafts-keep-the-limits = (c : Config) → Drafted c → Fit c

@@ -10,5 +10,6 @@ pub mod Life
 pub mod Values
 pub mod Story
 pub mod Law
+pub mod Sharp
 pub mod Fit
 pub mod Books

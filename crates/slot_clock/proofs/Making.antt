@@ -1,27 +1,25 @@
 -- The weights, one by one, and what a clock starts with. Assumes nothing.
 use mathlib.Core.Path.{_≡_, refl, sym, ap, subst, _∙_}
 use mathlib.Core.List.{List, [], _∷_}
-use mathlib.Core.Bool.{Bool, true, false, cond, _&&_}
+use mathlib.Core.Bool.{true, false, cond, _&&_}
 use mathlib.Core.Logic.{_⊎_, ⊎-elim}
-use Prim.Native.Nat.{ℕ, zero, suc, _+_, _-_, _*_, _≤_, _<_}
+use Prim.Native.Nat.{ℕ, zero, suc, _+_, _-_, _≤_, _<_}
 use native.Mathlib.Omega.{arith}
 use native.Mathlib.Numerals.{add-one}
-use lib.Dec.{ltb, leb, eqb}
-use lib.ListN.{length, getD, drop, replicate, length-replicate}
+use lib.Dec.{ltb, leb}
+use lib.ListN.{length, getD, drop, replicate}
 use lib.Seq.{drop-cons}
 use Rattle.std.proofs.shelf.Lists.{drop-all}
 use Rattle.std.proofs.shelf.Tests.{cond-true, cond-false, lt-ltb, le-ltb, le-leb, lt-leb, and-from, and-left, and-right, and-parts, ltb-true, leb-true, cases-bool}
 use Rattle.std.specs.declared.option.Option.{Option}
 use Rattle.std.specs.declared.option.Option.the-variants.{Some, None}
-use Rattle.std.specs.declared.result.Result.{Result}
 use Rattle.std.specs.declared.result.Result.the-variants.{Ok, Err}
-use Rattle.slot_clock.specs.declared.refusal.ClockRefusal.{ClockRefusal}
 use Rattle.slot_clock.specs.declared.refusal.ClockRefusal.the-variants.{Sessions, Weights}
 use Rattle.tick_machine.specs.Slots.{round-length}
 use Rattle.tick_machine.specs.Round.{Round, fresh-round}
 use Rattle.tick_machine.specs.Owed.{owed-slots, shown-round}
 use Rattle.tick_machine.proofs.OwedSlots.{shown-fresh}
-use Rattle.slot_clock.specs.State.{SlotState, state-of}
+use Rattle.slot_clock.specs.State.{state-of}
 use Rattle.slot_clock.specs.Calls.{no-zero, made-answer}
 use Rattle.slot_clock.specs.Walk.{Tops}
 use Rattle.slot_clock.proofs.Blocks.{round-more}

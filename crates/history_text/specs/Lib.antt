@@ -4,3 +4,5 @@ pub mod Vocabulary
 pub mod Fields
 pub mod Readings
 pub mod Replies
+pub mod Stages
+pub mod Transcript

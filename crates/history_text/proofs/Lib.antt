@@ -4,4 +4,3 @@ pub mod Naming
 pub mod KindOf
 pub mod Counting
 pub mod LineRead
-pub mod Samples

@@ -1,5 +1,4 @@
-// The text of a history: lines and fields, words and numbers, faults, commands, and replies.
-// specs/Transcript says what is printed for any input.
+// The text of a history as it is read: lines and fields, words and numbers, faults and commands.
 pub mod cuts;
 pub mod numerals;
 pub mod words;
@@ -7,5 +6,3 @@ pub mod fields;
 pub mod faults;
 pub mod commands;
 pub mod reading;
-pub mod replies;
-pub mod printing;

@@ -14,13 +14,13 @@ use Rattle.tick_machine.specs.declared.call.Answer.the-variants.{Made, Added, O
 use Rattle.tick_machine.specs.Slots.{round-length}
 use Rattle.tick_machine.specs.Machine.{Config, Machine, opened}
 use Rattle.tick_machine.specs.Life.{made, adding, added, told, respond}
 use Rattle.history_text.specs.declared.commands.Phase.{Phase}
 use Rattle.history_text.specs.declared.commands.Phase.the-variants as phase
 use Rattle.history_text.specs.declared.commands.Command.{Command}
 use Rattle.history_text.specs.declared.commands.Command.the-variants as command
 use Rattle.history_text.specs.declared.faults.Cause.the-variants.{Untimely}
-use Rattle.history_text.specs.declared.replies.Reply.{Reply}
-use Rattle.history_text.specs.declared.replies.Reply.the-variants as reply
+use Rattle.history_reply.specs.declared.replies.Reply.{Reply}
+use Rattle.history_reply.specs.declared.replies.Reply.the-variants as reply
 
 -- before an accepted `link`; at a draft; at an open link, with the slip in hand, if there is one
 pub data Stage : Type 0 where

@@ -4,15 +4,12 @@ ghost use mathlib.Core.List.{List, [], _∷_, _++_};
 ghost use Rattle.std.specs.Of.String.{string-bytes};
 ghost use Rattle.std.specs.Results.{Cases};
 ghost use Rattle.std.specs.declared.option.Option.the-variants.{Some};
-ghost use Rattle.history_text.specs.Replies.{answer-text, spoken, line-of};
-
-
+ghost use Rattle.history_reply.specs.Replies.{answer-text, spoken, line-of};
 use std::alloc::AllocError;
 use std::alloc::Global;
 use std::fmt;
 use crate::replies::Reply;
 use crate::replies::Said;
-use crate::replies::number_of_cause;
 use tick_machine::call::Answer;
 
 pub impl fmt::Display for Said as SaidDisplay {
@@ -51,7 +48,7 @@ pub impl fmt::Display for Reply as ReplyDisplay {
     fn fmt<W: fmt::Write>(&self, f: &mut fmt::Formatter<W>) -> fmt::Result {
         match *self {
             Reply::Fault(cause, line, byte) => {
-                let number = number_of_cause(cause);
+                let number = cause.number();
                 write!(f, "text {number} {line} {byte}")
             }
             Reply::TooLong => write!(f, "text 60 0 0"),

@@ -10,17 +10,9 @@ use Rattle.tick_machine.specs.declared.packet.SlipCopy.{SlipCopy}
 use Rattle.tick_machine.specs.declared.call.Answer.{Answer}
 use Rattle.tick_machine.specs.declared.call.Answer.the-variants.{Made, Added, Opened, Accepted, Moved, Collected, Filed, Returned, FiguresAre, TotalsAre, Refused}
 use Rattle.tick_machine.specs.Values.{values}
-use Rattle.history_text.specs.declared.faults.Cause.{Cause}
-use Rattle.history_text.specs.declared.faults.Cause.the-variants.{Unknown, Untimely, Miscounted, NoNumber}
-use Rattle.history_text.specs.declared.replies.Reply.{Reply}
-use Rattle.history_text.specs.declared.replies.Reply.the-variants as reply
-
--- the numbers of the causes
-abbrev pub cause-number : Cause → ℕ
-cause-number Unknown = 61
-cause-number Untimely = 62
-cause-number Miscounted = 63
-cause-number NoNumber = 64
+use Rattle.history_text.specs.Causes.{cause-number}
+use Rattle.history_reply.specs.declared.replies.Reply.{Reply}
+use Rattle.history_reply.specs.declared.replies.Reply.the-variants as reply
 
 -- the word before a slip's values; that there is no slip is said in words too
 abbrev pub took : Option SlipCopy → List ℕ

@@ -1,6 +1,6 @@
 use borrow.Author.Needs.{needs}
 use Rattle.std.specs.Written.{digits}
-use Rattle.history_text.proofs.printing.ReplyDisplay.fmt.Needs as need
+use Rattle.history_reply.proofs.printing.ReplyDisplay.fmt.Needs as need
 
 pub returns-in-TooLong : need.returns-in-TooLong
 unfolding digits

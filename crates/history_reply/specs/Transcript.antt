@@ -13,14 +13,14 @@ use Rattle.tick_machine.specs.declared.packet.SlipCopy.{SlipCopy}
 use Rattle.tick_machine.specs.declared.call.Call.the-variants.{Return}
 use Rattle.tick_machine.specs.Machine.{Config, Machine}
 use Rattle.tick_machine.specs.Life.{respond}
 use Rattle.history_text.specs.declared.commands.Command.{Command}
 use Rattle.history_text.specs.declared.faults.Fault.{Fault}
-use Rattle.history_text.specs.declared.replies.Reply.{Reply}
-use Rattle.history_text.specs.declared.replies.Reply.the-variants as reply
+use Rattle.history_reply.specs.declared.replies.Reply.{Reply}
+use Rattle.history_reply.specs.declared.replies.Reply.the-variants as reply
 use Rattle.history_text.specs.Cuts.{cut}
 use Rattle.history_text.specs.Readings.{reading}
-use Rattle.history_text.specs.Replies.{line-of}
-use Rattle.history_text.specs.Stages.{Stage, before, draft, running, phase-of, Turn, obey}
+use Rattle.history_reply.specs.Replies.{line-of}
+use Rattle.history_reply.specs.Stages.{Stage, before, draft, running, phase-of, Turn, obey}
 
 -- a line is faulty, or its command is obeyed
 abbrev pub answered : ℕ → Stage → Result Command Fault → Turn

@@ -23,7 +23,7 @@ pub fn split<'a>(text: &'a [u8], at: u8) -> Cut<'a>
 }
 
 // How many parts there are.
-pub fn count(text: &[u8], at: u8) -> usize
+pub(crate) fn count(text: &[u8], at: u8) -> usize
     requires { ⌜ length (now text) ≤ 70000 ⌝ }
     ensures { λ r. ⌜ r ≡ length (cut at (now (text .entry))) ⌝ }
 {

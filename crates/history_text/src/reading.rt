@@ -18,7 +18,7 @@ use crate::words::word_of;
 
 // Before an accepted link only `link`; in a draft `sess` and `open`; then the rest, but `take` only without a slip in hand, and `filed` and
 // `back` only with one.
-pub fn is_in_turn(phase: Phase, word: Word) -> bool
+fn is_in_turn(phase: Phase, word: Word) -> bool
     ensures { λ r. ⌜ r ≡ in-turn phase word ⌝ }
 {
     match phase {
@@ -42,7 +42,7 @@ pub fn is_in_turn(phase: Phase, word: Word) -> bool
 }
 
 // The word of a line, with so many fields after it.
-pub fn judge(phase: Phase, token: Token, after: usize) -> Result<Word, Cause>
+fn judge(phase: Phase, token: Token, after: usize) -> Result<Word, Cause>
     ensures value { λ r. ⌜ r ≡ judged phase (word-in (shown (token .entry))) after ⌝ }
     ensures counted { λ r. ⌜ made r (λ w. after ≡ arity w) ⌝ }
 {
@@ -62,7 +62,7 @@ pub fn judge(phase: Phase, token: Token, after: usize) -> Result<Word, Cause>
 }
 
 // The command of the word, with a number from each of the fields; or the byte at which the first field begins that is no number.
-pub fn command_from(word: Word, fields: &mut Fields) -> Result<Command, usize>
+fn command_from(word: Word, fields: &mut Fields) -> Result<Command, usize>
     requires counted { ⌜ length (coming (now fields)) ≡ arity word ⌝ }
     requires short { ⌜ reach (now fields) ≤ 65540 ⌝ }
     ensures { λ r. ⌜ r ≡ commanded word (numbers (now (fields .entry) .place) (coming (now (fields .entry)))) ⌝ }
@@ -92,20 +92,29 @@ pub fn command_from(word: Word, fields: &mut Fields) -> Result<Command, usize>
     }
 }
 
+// What all fields of a line ask for.
+fn read_fields(phase: Phase, fields: &mut Fields) -> Result<Command, Fault>
+    requires first { ⌜ now fields .place ≡ 1 ⌝ }
+    requires short { ⌜ reach (now fields) ≤ 65537 ⌝ }
+    ensures { λ r. ⌜ r ≡ reading phase (coming (now (fields .entry))) ⌝ }
+{
+    let Some(first) = fields.next_field() else {
+        return Err(Fault { cause: Cause::Unknown, byte: 1 });
+    };
+    match judge(phase, first.token, fields.count()) {
+        Err(cause) => Err(Fault { cause, byte: first.place }),
+        Ok(word) => match command_from(word, fields) {
+            Ok(command) => Ok(command),
+            Err(byte) => Err(Fault { cause: Cause::NoNumber, byte }),
+        },
+    }
+}
+
 // What a line that is not empty asks for.
 pub fn read(phase: Phase, line: &[u8]) -> Result<Command, Fault>
     requires { ⌜ length (now line) ≤ 65536 ⌝ }
     ensures { λ r. ⌜ r ≡ reading phase (cut 32 (now (line .entry))) ⌝ }
 {
     let mut fields = Fields::of(line);
-    let Some(first) = fields.next_field() else {
-        return Err(Fault { cause: Cause::Unknown, byte: 1 });
-    };
-    match judge(phase, first.token, fields.count()) {
-        Err(cause) => Err(Fault { cause, byte: first.place }),
-        Ok(word) => match command_from(word, &mut fields) {
-            Ok(command) => Ok(command),
-            Err(byte) => Err(Fault { cause: Cause::NoNumber, byte }),
-        },
-    }
+    read_fields(phase, &mut fields)
 }

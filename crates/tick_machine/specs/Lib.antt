@@ -2,6 +2,7 @@ pub mod Lists
 pub mod Refusals
 pub mod Slots
 pub mod Round
+pub mod Owed
 pub mod Sender
 pub mod Desk
 pub mod Machine
@@ -9,3 +10,6 @@ pub mod Life
 pub mod Values
 pub mod Story
 pub mod Law
+pub mod Sharp
+pub mod Fit
+pub mod Books

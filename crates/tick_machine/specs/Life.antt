@@ -148,9 +148,13 @@ abbrev pub slip-of : ℕ → Option Departed → Option SlipCopy
 slip-of link None = None
 slip-of link (Some d) = Some (slip link d)
 
+-- an accepted packet's number, stamp and latest tick
+abbrev pub arrived : ℕ × ℕ × ℕ → Answer
+arrived a = Accepted (a .0) (a .1) (a .2)
+
 -- what is answered to a call
 abbrev pub answer : Config → Machine → Call → Answer
-answer c m (Arrive i n tag) = told (λ a. Accepted (a .0) (a .1) (a .2)) (arrival c i n m)
+answer c m (Arrive i n tag) = told arrived (arrival c i n m)
 answer c m (MoveTo t) = told (Moved t) (move c t m)
 answer c m Collect = Collected (slip-of (c .link) (first (m .desk .left)))
 answer c m (File link number) = told Filed (settlement c link number m)

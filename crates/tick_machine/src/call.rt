@@ -1,8 +1,8 @@
 // The calls of an open link, and every answer in a link's life.
 use crate::packet::SlipCopy;
-use crate::refusal::Refusal;
 use crate::packet::SlipCopyDebug;
 use crate::packet::SlipCopyPartialEq;
+use crate::refusal::Refusal;
 use crate::refusal::RefusalDebug;
 use crate::refusal::RefusalPartialEq;
 

@@ -1,0 +1,6 @@
+// The dispatcher of one line.
+pub mod slip;
+pub mod session;
+mod refusal;
+mod table;
+pub mod link;

@@ -1,0 +1,4 @@
+// A history of one link, run.
+mod answers;
+pub mod clerk;
+mod serving;

@@ -9,3 +9,4 @@ pub mod Moves
 pub mod Admits
 pub mod Arrivals
 pub mod Slips
+pub mod Readings

@@ -36,4 +36,5 @@ pub struct Link<W: WaitingLine, S: SlotClock> {
 
 mod arrivals;
 mod moves;
+mod readings;
 mod slips;

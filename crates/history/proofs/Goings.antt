@@ -4,8 +4,6 @@ use mathlib.Core.List.{List, _∷_}
 use Prim.Native.Nat.{ℕ}
 use Rattle.std.specs.declared.option.Option.{Option}
 use Rattle.std.specs.declared.option.Option.the-variants.{Some, None}
-use Rattle.std.specs.declared.result.Result.{Result}
-use Rattle.std.specs.declared.result.Result.the-variants.{Ok, Err}
 use Rattle.tick_machine.specs.declared.packet.SlipCopy.{SlipCopy}
 use Rattle.tick_machine.specs.declared.call.Call.{Call}
 use Rattle.tick_machine.specs.declared.call.Call.the-variants as call
@@ -16,17 +14,16 @@ use Rattle.waiting_line.specs.declared.pair.Pair.{Pair}
 use Rattle.slot_clock.specs.State.{SlotState}
 use Rattle.link.specs.declared.link.Link.{Link}
 use Rattle.link.specs.declared.slip.Slip.{Slip}
-use Rattle.link.specs.Promise.{Led, Goes, Keeps, collected-as}
+use Rattle.link.specs.Promise.{Keeps, collected-as}
 use Rattle.history_text.specs.declared.commands.Command.{Command}
 use Rattle.history_text.specs.declared.commands.Command.the-variants as command
-use Rattle.history_text.specs.declared.faults.Cause.the-variants.{Untimely}
 use Rattle.history_reply.specs.declared.replies.Reply.{Reply}
 use Rattle.history_reply.specs.declared.replies.Reply.the-variants as reply
-use Rattle.history_reply.specs.Stages.{Stage, running, Turn, calling, untimely, obey, slip-in}
+use Rattle.history_reply.specs.Stages.{Stage, running, calling, obey, slip-in}
 use Rattle.history.specs.declared.clerk.LinkClerk.{LinkClerk}
 use Rattle.history.specs.declared.clerk.LinkClerk.the-variants as clerk
-use Rattle.history.specs.Standing.{copied, Out, At-link, Stands, Went}
-use Rattle.history.proofs.Outs.{slip-is-out, arrival-settles-nothing, move-settles-nothing}
+use Rattle.history.specs.Standing.{copied, Out, At-link, Went}
+use Rattle.history.proofs.Outs.{slip-is-out, move-settles-nothing}
 
 -- a slip stays out where settlements stay the same
 pub out-kept : (c : Config) (m m′ : Machine) (o : Option SlipCopy) → ((link number : ℕ) → settlement c link number m′ ≡ settlement c link number m) → Out c m o → Out c m′ o
@@ -58,19 +55,18 @@ module _ {W S : Type 0} (pairs : W → List Pair) (capacity : W → ℕ) (state 
   at-stage : (n : ℕ) (x : Command) (s t : Stage) (next : LinkClerk W S) (r : Reply) → s ≡ t → Went pairs capacity state (obey n t x) next r → Went pairs capacity state (obey n s x) next r
   at-stage n x s t next r e w = subst (λ (u : Stage). Went pairs capacity state (obey n u x) next r) (sym e) w
 
-  module _ (n : ℕ) (s : Stage) (l : Link W S) (hand : Option Slip) (k : At-link pairs capacity state s l hand) where
-    -- where nothing is obeyed
-    unmoved : (x : Command) (u : obey n (running (k .config) (after (k .config) (k .calls)) (copied hand)) x ≡ untimely n (running (k .config) (after (k .config) (k .calls)) (copied hand))) → Went pairs capacity state (obey n s x) (clerk.Serving l hand) (reply.Fault Untimely n 1)
-    unmoved x u = at-stage n x s (running (k .config) (after (k .config) (k .calls)) (copied hand)) _ _ (k .is) (record {
-      replied = ap (λ (t : Turn). t .says) (sym u);
-      stands = subst (λ (t : Stage). At-link pairs capacity state t l hand) (k .is ∙ ap (λ (t : Turn). t .next) (sym u)) k;
-    })
-
-  pub take-again : (n : ℕ) (s : Stage) (l : Link W S) (slip : Slip) → At-link pairs capacity state s l (Some slip) → Went pairs capacity state (obey n s command.Take) (clerk.Serving l (Some slip)) (reply.Fault Untimely n 1)
-  take-again n s l slip k = unmoved n s l (Some slip) k command.Take refl
-
+  -- a slip is taken, or none
   pub taken : (n : ℕ) (s : Stage) (l l′ : Link W S) (got : Option Slip) (b : Answer) → b ≡ collected-as got → Keeps pairs capacity state l call.Collect (collected-as got) l′ → At-link pairs capacity state s l None → Went pairs capacity state (obey n s command.Take) (clerk.Serving l′ got) (reply.Answer b)
   taken n s l l′ got b e keeps k =
       let goes = keeps (k .config) (k .calls) (k .led) in
       let h : slip-in (respond (k .config) (after (k .config) (k .calls)) call.Collect .1) ≡ copied got = sym (ap slip-in (goes .told)) in
       at-stage n command.Take s _ _ _ (k .is) (goes-on s l l′ None got call.Collect (collected-as got) b _ k e keeps h (out-taken (k .config) (after (k .config) (k .calls)) (copied got) (sym h)))
+
+  -- the clock is moved
+  pub moved : (n : ℕ) (s : Stage) (l l′ : Link W S) (hand : Option Slip) (a b : Answer) (x : Command) (t : ℕ) → x ≡ command.MoveTo t → b ≡ a → Keeps pairs capacity state l (call.MoveTo t) a l′ → At-link pairs capacity state s l hand → Went pairs capacity state (obey n s x) (clerk.Serving l′ hand) (reply.Answer b)
+  moved n s l l′ hand a b x t is e keeps k =
+      let c = k .config in
+      let m = after (k .config) (k .calls) in
+      let out = out-kept c m (respond c m (call.MoveTo t) .0) (copied hand) (move-settles-nothing c m t) (k .out) in
+      let w = at-stage n (command.MoveTo t) s _ _ _ (k .is) (goes-on s l l′ hand hand (call.MoveTo t) a b _ k e keeps refl out) in
+      subst (λ (y : Command). Went pairs capacity state (obey n s y) (clerk.Serving l′ hand) (reply.Answer b)) (sym is) w

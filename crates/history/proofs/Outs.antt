@@ -6,7 +6,7 @@ use Prim.Native.Nat.{ℕ, zero, suc, _-_}
 use native.Mathlib.Omega.{arith}
 use lib.Dec.{eqb}
 use lib.ListN.{replicate}
-use Rattle.std.proofs.shelf.Tests.{eq-eqb, or-left, or-right}
+use Rattle.std.proofs.shelf.Tests.{eq-eqb}
 use Rattle.std.specs.declared.option.Option.{Option}
 use Rattle.std.specs.declared.option.Option.the-variants.{Some, None}
 use Rattle.std.specs.declared.result.Result.{Result}
@@ -15,11 +15,10 @@ use Rattle.tick_machine.specs.declared.refusal.Refusal.{Refusal}
 use Rattle.tick_machine.specs.declared.refusal.Refusal.the-variants.{OtherLink, NotOut}
 use Rattle.tick_machine.specs.declared.packet.SlipCopy.{SlipCopy}
 use Rattle.tick_machine.specs.declared.packet.Departed.{Departed}
-use Rattle.tick_machine.specs.declared.call.Call.{Call}
 use Rattle.tick_machine.specs.declared.call.Call.the-variants as call
-use Rattle.tick_machine.specs.Desk.{Desk, first, handed, among, hand-out, slip}
-use Rattle.tick_machine.specs.Machine.{Config, Machine, accept, tick, with-desk}
-use Rattle.tick_machine.specs.Life.{Event, ticked, accepted, steps, if-granted, arrival, move, settlement, slip-of, respond}
+use Rattle.tick_machine.specs.Desk.{first, handed, among, slip}
+use Rattle.tick_machine.specs.Machine.{Config, Machine}
+use Rattle.tick_machine.specs.Life.{ticked, steps, if-granted, move, settlement, slip-of, respond}
 
 among-last : (k : ℕ) (xs : List ℕ) → among k (xs ++ k ∷ []) ≡ true
 among-last k [] = ap (λ (b : Bool). b || false) (eq-eqb k k refl)
@@ -44,7 +43,7 @@ out-after c m says (d ∷ ds) e =
 pub slip-is-out : (c : Config) (m : Machine) (says : SlipCopy) → Some says ≡ slip-of (c .link) (first (m .desk .left)) → settlement c (says .link) (says .packet) (respond c m call.Collect .0) ≡ Ok (says .packet)
 slip-is-out c m says e = let p = out-after c m says (m .desk .left) e in settled-here c (says .link) (says .packet) (respond c m call.Collect .0) (p .0) (p .1)
 
--- what is out after the events of a call that settles nothing
+-- what is out after a clock move
 module _ (c : Config) (m : Machine) where
   ticks-keep : (k : ℕ) → steps c (replicate k ticked) m .desk .out ≡ m .desk .out
   ticks-keep zero = refl
@@ -54,15 +53,8 @@ module _ (c : Config) (m : Machine) where
   move-keeps (Ok x) k = ticks-keep k
   move-keeps (Err e) k = refl
 
-  arrival-keeps : (r : Result (ℕ × ℕ × ℕ) Refusal) (i n tag : ℕ) → steps c (if-granted r (accepted i n tag ∷ [])) m .desk .out ≡ m .desk .out
-  arrival-keeps (Ok x) i n tag = refl
-  arrival-keeps (Err e) i n tag = refl
-
   same-settlement : (m′ : Machine) (link number : ℕ) → m′ .desk .out ≡ m .desk .out → settlement c link number m′ ≡ settlement c link number m
   same-settlement m′ link number e = ap (λ (xs : List ℕ). cond (eqb link (c .link)) (cond (among number xs) (Ok number) (Err NotOut)) (Err OtherLink)) e
-
-  pub arrival-settles-nothing : (i n tag link number : ℕ) → settlement c link number (respond c m (call.Arrive i n tag) .0) ≡ settlement c link number m
-  arrival-settles-nothing i n tag link number = same-settlement (respond c m (call.Arrive i n tag) .0) link number (arrival-keeps (arrival c i n m) i n tag)
 
   pub move-settles-nothing : (t link number : ℕ) → settlement c link number (respond c m (call.MoveTo t) .0) ≡ settlement c link number m
   move-settles-nothing t link number = same-settlement (respond c m (call.MoveTo t) .0) link number (move-keeps (move c t m) (t - m .clock))

@@ -1,4 +1,5 @@
 // A history of one link, run.
 mod answers;
 pub mod clerk;
+mod ending;
 mod serving;

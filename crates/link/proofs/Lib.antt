@@ -10,3 +10,5 @@ pub mod Admits
 pub mod Arrivals
 pub mod Slips
 pub mod Readings
+pub mod Drafts
+pub mod Openings

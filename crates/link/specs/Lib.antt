@@ -4,4 +4,7 @@ pub mod Stretch
 pub mod Orderly
 pub mod Admission
 pub mod Shown
+pub mod Opened
 pub mod Promise
+pub mod Making
+pub mod Drafting

@@ -1,6 +1,8 @@
-// The dispatcher of one line.
+// The dispatcher of one line: a draft that takes sessions, the open link, and slips.
 pub mod slip;
 pub mod session;
 mod refusal;
 mod table;
+pub mod error;
 pub mod link;
+pub mod draft;

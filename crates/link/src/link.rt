@@ -36,5 +36,6 @@ pub struct Link<W: WaitingLine, S: SlotClock> {
 
 mod arrivals;
 mod moves;
+mod opening;
 mod readings;
 mod slips;

@@ -14,7 +14,9 @@ use Rattle.waiting_line.specs.declared.pair.Pair.{Pair}
 use Rattle.slot_clock.specs.State.{SlotState}
 use Rattle.link.specs.declared.link.Link.{Link}
 use Rattle.link.specs.declared.slip.Slip.{Slip}
+use Rattle.link.specs.declared.draft.Draft.{Draft}
 use Rattle.link.specs.Promise.{Led}
+use Rattle.link.specs.Drafting.{Drafts}
 use Rattle.history_reply.specs.declared.replies.Reply.{Reply}
 use Rattle.history_reply.specs.Stages.{Stage, before, draft, running, Turn}
 use Rattle.history.specs.declared.clerk.LinkClerk.{LinkClerk}
@@ -38,8 +40,15 @@ module _ {W S : Type 0} (pairs : W → List Pair) (capacity : W → ℕ) (state 
     pub led : Led pairs capacity state config calls l
     pub out : Out config (after config calls) (copied hand)
 
+  -- the history stands at a draft: a making and some addings led to it
+  pub record At-draft (s : Stage) (d : Draft W) : Type 0 where
+    pub config : Config
+    pub is : s ≡ draft config
+    pub drafts : Drafts pairs capacity config d
+
   abbrev pub Stands : Stage → LinkClerk W S → Type 0
   Stands s clerk.Before = s ≡ before
+  Stands s (clerk.Drafting d) = At-draft s d
   Stands s (clerk.Serving l hand) = At-link s l hand
 
   -- a turn was taken so

@@ -1,13 +1,22 @@
 // Answers, from what the calls of a link gave.
 ghost use mathlib.Core.Path.{_≡_};
 ghost use Rattle.tick_machine.specs.Life.{told, arrived};
-ghost use Rattle.tick_machine.specs.declared.call.Answer.the-variants.{Moved, FiguresAre};
+ghost use Rattle.tick_machine.specs.declared.call.Answer.the-variants.{Added, Moved, FiguresAre};
 ghost use Rattle.history.specs.Standing.{copied};
 use link::slip::Slip;
 use tick_machine::call::Answer;
 use tick_machine::call::Figures;
 use tick_machine::packet::SlipCopy;
 use tick_machine::refusal::Refusal;
+
+pub fn added(r: Result<u64, Refusal>) -> Answer
+    ensures { λ a. ⌜ a ≡ told Added r ⌝ }
+{
+    match r {
+        Ok(session) => Answer::Added(session),
+        Err(e) => Answer::Refused(e),
+    }
+}
 
 pub fn accepted(r: Result<(u64, u64, u64), Refusal>) -> Answer
     ensures { λ a. ⌜ a ≡ told arrived r ⌝ }

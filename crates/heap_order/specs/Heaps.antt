@@ -1,6 +1,6 @@
 -- A binary heap in a list, under the test `before` of an order. Assumes nothing.
 use mathlib.Core.Path.{_≡_}
-use mathlib.Core.Bool.{Bool, true, false}
+use mathlib.Core.Bool.{Bool, false}
 use mathlib.Core.List.{List}
 use Prim.Native.Nat.{ℕ, _-_, _/_, _<_}
 use lib.ListN.{length, getD}
@@ -13,6 +13,10 @@ module _ {X : Type 0} (before : X → X → Bool) where
   -- a heap: no element is before its parent
   abbrev pub Heaped : List X → Type 0
   Heaped xs = (k : ℕ) (d : X) → 0 < k → k < length xs → before (getD xs k d) (getD xs (parent k) d) ≡ false
+
+  -- the same with one element d for what stands past the end, as the invariant of a type has it
+  abbrev pub HeapedAt : X → List X → Type 0
+  HeapedAt d xs = (k : ℕ) → 0 < k → k < length xs → before (getD xs k d) (getD xs (parent k) d) ≡ false
 
   -- no child of the element at j is before the parent of j
   abbrev pub Spanned : List X → ℕ → Type 0

@@ -1,7 +1,6 @@
 // Sifting: a slice that is a heap but for one place becomes a heap again by exchanges alone.
 ghost use mathlib.Core.Path.{_≡_};
-ghost use mathlib.Core.Bool.{Bool, true, false};
-ghost use Prim.Native.Nat.{ℕ, _+_, _*_, _<_, _≤_};
+ghost use Prim.Native.Nat.{_+_, _*_, _<_};
 ghost use lib.ListN.{length, getD};
 ghost use Rattle.std.specs.Slices.{Shuffled};
 ghost use Rattle.heap_order.specs.Heaps.{Heaped, Loose, Heavy, LeastChild, parent};

@@ -1,12 +1,12 @@
 // A heap kept in a `Vec` whose memory is reserved: nothing here allocates, and the reserved room stays as it is.
 ghost use mathlib.Core.Path.{_≡_};
-ghost use mathlib.Core.Bool.{Bool, true, false};
-ghost use mathlib.Core.List.{List, [], _∷_, _++_};
-ghost use Prim.Native.Nat.{ℕ, _+_, _<_, _≤_};
-ghost use lib.ListN.{length, getD, set};
+ghost use mathlib.Core.Bool.{false};
+ghost use mathlib.Core.List.{[], _∷_, _++_};
+ghost use Prim.Native.Nat.{_+_, _<_};
+ghost use lib.ListN.{getD, set};
 ghost use Rattle.std.specs.Slices.{Shuffled};
 ghost use Rattle.std.specs.Of.Vec.{vec-len, vec-cap, vec-items};
-ghost use Rattle.heap_order.specs.Heaps.{Heaped, Loose, Heavy, parent};
+ghost use Rattle.heap_order.specs.Heaps.{Heaped, Loose, Heavy};
 use crate::order::TotalOrder;
 use crate::sift::sift_down;
 use crate::sift::sift_up;

@@ -19,4 +19,4 @@ pub mod Histories
 pub mod Placed
 pub mod Small
 pub mod Stands
-pub mod Sharp
+pub mod Computed

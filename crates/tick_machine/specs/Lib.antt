@@ -10,6 +10,8 @@ pub mod Life
 pub mod Values
 pub mod Story
 pub mod Law
-pub mod Sharp
 pub mod Fit
 pub mod Books
+pub mod Cases
+pub mod WrongRules
+pub mod Sharp

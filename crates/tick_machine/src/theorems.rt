@@ -4,7 +4,6 @@ ghost use Rattle.tick_machine.specs.declared.call.Call.{Call};
 ghost use Rattle.tick_machine.specs.Slots.{Each-position-has-one-owner, Each-session-owns-its-weight};
 ghost use Rattle.tick_machine.specs.Machine.{Config};
 ghost use Rattle.tick_machine.specs.Law.{Law, Drafted, In-every-history, Lawful};
-ghost use Rattle.tick_machine.specs.Sharp.{Bounds-are-reached};
 ghost use Rattle.tick_machine.specs.Fit.{Drafts-keep-the-limits};
 ghost use Rattle.tick_machine.specs.Books.{The-story-tells-the-calls, Same-work, Owed-by-next, Figures-told, Figures-add-up, Totals-add-up, Well-kept, Stays-small, Of-every-machine};
 
@@ -28,13 +27,6 @@ pub fn limits_stand() -> u8
 // tick is bounded by the bytes its session was owed.
 pub fn law_stands() -> u8
     ensures { λ _. ⌜ In-every-history Law ⌝ }
-{
-    0
-}
-
-// No bound of the law can be made smaller: runs reach each of them.
-pub fn bounds_are_reached() -> u8
-    ensures { λ _. ⌜ Bounds-are-reached ⌝ }
 {
     0
 }

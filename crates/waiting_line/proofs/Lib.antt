@@ -1,1 +1,4 @@
 pub mod Orders
+pub mod Sums
+pub mod Heaps
+pub mod Puts

@@ -26,7 +26,7 @@ pub trait WaitingLine: Sized {
 
     law within: { (l : Self) → length (pairs l) ≤ capacity l };
 
-    law fits: { (l : Self) → fitting (capacity l) ≡ true };
+    law fits: { (l : Self) → (1 ≤ capacity l) × (capacity l ≤ 1024) };
 
     // An empty line with that capacity. Refused with `Capacity` exactly for 0 or more than 1,024, before memory is asked for.
     fn make(heap: Global, limit: u64) -> Result<Self, MakeRefusal>

@@ -2,15 +2,14 @@
 // as one block; a take moves the others down as one block. Its memory is reserved when it is made.
 ghost use mathlib.Core.Path.{_≡_};
 ghost use mathlib.Core.Bool.{true, false};
-ghost use mathlib.Core.List.{List, []};
 ghost use Prim.Native.Nat.{ℕ, _<_, _≤_};
-ghost use lib.ListN.{length, getD};
+ghost use lib.ListN.{getD};
 ghost use Rattle.std.specs.Results.{Cases};
 ghost use Rattle.std.specs.Holes.{inserted};
 ghost use Rattle.std.specs.Of.Vec.{vec-len, vec-cap, vec-items};
 ghost use Rattle.tick_machine.specs.Lists.{insert as insertion};
 ghost use Rattle.tick_machine.specs.declared.refusal.LineRefusal.the-variants.{Twice};
-ghost use Rattle.waiting_line.specs.Lines.{stamp-of, fitting, holds};
+ghost use Rattle.waiting_line.specs.Lines.{stamp-of, holds};
 ghost use Rattle.waiting_line.specs.Kept.{blank, in-order};
 use crate::line::WaitingLine;
 use crate::pair::Pair;
@@ -25,7 +24,8 @@ pub struct SortedLine {
     ghost rising: { in-order (vec-items items) ≡ true },
     ghost reserved: { limit ≤ vec-cap items },
     ghost inside: { vec-len items ≤ limit },
-    ghost fits: { fitting limit ≡ true },
+    ghost some: { 1 ≤ limit },
+    ghost few: { limit ≤ 1024 },
 }
 
 impl SortedLine {
@@ -76,7 +76,11 @@ pub impl WaitingLine for SortedLine as SortedWaits {
     }
 
     fn room(&self) -> Result<(), LineRefusal> {
-        if self.size() < self.limit { Ok(()) } else { Err(LineRefusal::Full) }
+        if self.size() < self.limit {
+            Ok(())
+        } else {
+            Err(LineRefusal::Full)
+        }
     }
 
     fn put(&mut self, pair: Pair) -> Result<(), LineRefusal> {

@@ -13,7 +13,7 @@ returns-else-left-s g c =
       child = (omega arith, c .pre, omega arith);
       least = left-least (g .T·TotalOrder .before) (laws .total) (laws .transitive) (c .args .s .now) (c .args .at) (c .args .at * 2 + 1) refl
           (elim (c .else-left-s .came) [
-            else-left-s·by·then-left-s·else-precedes-at w ↦ λ _. w .if-precedes-at .ensures tt
+            | else-left-s·by·then-left-s·else-precedes-at w ↦ λ _. w .if-precedes-at .ensures tt
             | else-left-s·by·else-left-s w ↦ λ h. absurd (omega (arith, w .if-left-s .left))
           ]);
     }

@@ -1,5 +1,4 @@
 use borrow.Author.Needs.{needs}
-use native.Mathlib.Omega.{arith}
 use Rattle.std.proofs.shelf.Sorted.{shuffled-trans}
 use Rattle.heap_order.proofs.Sifting.{swap-of, sinks, lies}
 use Rattle.heap_order.proofs.sift.sift_down.Needs as need
@@ -9,8 +8,7 @@ loop-i-again g c =
     let laws = g .T·TotalOrder·met in
     let said = c .swap .ensures in
     let best = c .least-child-child .ensures in
-    let s = swap-of (said .len) (said .places .0) (said .places .1) (said .places .2) in
-    (
+    let s = swap-of (said .len) (said .places .0) (said .places .1) (said .places .2) in (
       search needs,
       shuffled-trans _ _ _ (c .loop-i .inv .1) (said .shuffled),
       sinks (g .T·TotalOrder .before) (laws .total) (laws .transitive) _ _ (c .loop-i .i) (c .least-child-child .result) (best .child .0) (best .child .2) (best .child .1) s (best .least) (c .if-not-precedes-at .ensures tt) (c .loop-i .inv .2),

@@ -13,8 +13,7 @@ loop-i-again g c =
     let said = c .swap .ensures in
     let in′ : i < length (c .loop-i .s) = c .loop-i .inv .1 in
     let t : 0 < i = c .loop-i-test .taken in
-    let s = swap-of (said .len) (said .places .0) (said .places .1) (said .places .2) in
-    (
+    let s = swap-of (said .len) (said .places .0) (said .places .1) (said .places .2) in (
       search needs,
       omega (arith, said .len),
       shuffled-trans _ _ _ (c .loop-i .inv .2) (said .shuffled),

@@ -3,7 +3,6 @@ use mathlib.Core.Path.{_≡_, sym, subst}
 use mathlib.Core.List.{List, [], _∷_, _++_}
 use Prim.Native.Nat.{ℕ}
 use lib.ListN.{length}
-use Rattle.std.specs.Slices.{Shuffled}
 use Rattle.std.specs.Of.Vec.{vec-items}
 use Rattle.heap_order.specs.Heaps.{Loose}
 use Rattle.heap_order.proofs.Changes.{loose-push}

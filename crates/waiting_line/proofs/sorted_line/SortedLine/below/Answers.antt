@@ -1,6 +1,6 @@
 use borrow.Author.Needs.{needs}
 use native.Mathlib.Omega.{arith}
-use Prim.Native.Nat.{ℕ, _+_, _-_, _/_, _<_, _≤_}
+use Prim.Native.Nat.{_+_, _-_, _/_, _<_, _≤_}
 use lib.ListN.{length, getD}
 use Rattle.std.specs.Of.Vec.{vec-items}
 use Rattle.waiting_line.specs.Kept.{blank}

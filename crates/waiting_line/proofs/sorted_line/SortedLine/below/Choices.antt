@@ -1,5 +1,5 @@
 use Prim.Native.Nat.{ℕ, _-_, _<_, _≤_}
-use lib.ListN.{length, getD}
+use lib.ListN.{getD}
 use Rattle.std.specs.Of.Vec.{vec-items, vec-len}
 use Rattle.waiting_line.specs.Kept.{blank}
 use Rattle.waiting_line.proofs.sorted_line.SortedLine.below.Given as given

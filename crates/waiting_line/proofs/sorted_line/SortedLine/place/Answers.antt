@@ -24,8 +24,8 @@ returns c =
     let p = c .args .pair in
     let le : i ≤ length xs = search needs in
     let hi : i < length xs → p .stamp < getD xs i blank .stamp =
-        elim (c .else-at-len .came) [
-          else-at-len·by·then-at-len·else-index-pair w ↦ λ l. omega (arith, read-at xs i _ l (w .index .ensures), w .if-index-pair .left, c .below-at .ensures .behind i (omega arith) (search needs))
-          | else-at-len·by·else-at-len w ↦ λ l. absurd (omega (arith, w .if-at-len .left))
-        ] in
+    elim (c .else-at-len .came) [
+      | else-at-len·by·then-at-len·else-index-pair w ↦ λ l. omega (arith, read-at xs i _ l (w .index .ensures), w .if-index-pair .left, c .below-at .ensures .behind i (omega arith) (search needs))
+      | else-at-len·by·else-at-len w ↦ λ l. absurd (omega (arith, w .if-at-len .left))
+    ] in
     (search needs, fresh xs i (p .stamp) le (c .args .self .now .rising) (c .below-at .ensures .before) hi, placed xs i p le (c .below-at .ensures .before) hi)

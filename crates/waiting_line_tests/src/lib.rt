@@ -1,0 +1,3 @@
+// Tables of calls, and what each is answered, through which both waiting lines go.
+#[cfg(test)]
+mod tests;

@@ -1,0 +1,4 @@
+pub mod Replies
+pub mod Stages
+pub mod Transcript
+pub mod Samples

@@ -1,0 +1,3 @@
+// Histories and what they print, through which all four pairs of parts go.
+#[cfg(test)]
+mod tests;

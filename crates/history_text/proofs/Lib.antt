@@ -1,0 +1,6 @@
+pub mod Parting
+pub mod Digitwise
+pub mod Naming
+pub mod KindOf
+pub mod Counting
+pub mod LineRead

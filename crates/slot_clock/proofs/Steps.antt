@@ -53,9 +53,6 @@ owed-ahead ws next v h =
     (cases-lt v (greatest next))
 
 module _ (ws next : List ℕ) (v : ℕ) (ahead : v < greatest next) where
-  rest : List ℕ
-  rest = kept (due ws next) (from (suc v) (greatest next - suc v))
-
   first-slot : owed-slots ws v next ≡ cond (due ws next v) (v ∷ owed-slots ws (suc v) next) (owed-slots ws (suc v) next)
   first-slot = let e : greatest next - v ≡ suc (greatest next - suc v) = omega arith in ap (λ n. kept (due ws next) (from v n)) e
 

@@ -12,7 +12,10 @@ use tick_machine::call::Answer;
 use waiting_line::line::WaitingLine;
 
 // The slip in hand is returned. It is out, so its return is granted.
-pub fn close_link<W: WaitingLine + Drop, S: SlotClock + Drop>(link: Link<W, S>, hand: Option<Slip>) -> Option<Reply>
+pub fn close_link<W: WaitingLine + Drop, S: SlotClock + Drop>(
+    link: Link<W, S>,
+    hand: Option<Slip>,
+) -> Option<Reply>
     requires { ⌜ ((s : Stage) × At-link (W·WaitingLine .pairs) (W·WaitingLine .capacity) (S·SlotClock .state) s link hand) ⌝ }
     ensures { λ r. ⌜ ((s : Stage) → At-link (W·WaitingLine .pairs) (W·WaitingLine .capacity) (S·SlotClock .state) s link hand → last-lines r ≡ ending s) ⌝ }
 {

@@ -28,7 +28,12 @@ pub impl<W: WaitingLine + Drop, S: SlotClock + Drop> Clerk for LinkClerk<W, S> a
         }
     }
 
-    fn obey(self, heap: Global, n: u64, command: Command) -> (LinkClerk<W, S>, Result<Reply, AllocError>) {
+    fn obey(
+        self,
+        heap: Global,
+        n: u64,
+        command: Command,
+    ) -> (LinkClerk<W, S>, Result<Reply, AllocError>) {
         match self {
             LinkClerk::Before => begin(heap, n, command),
             LinkClerk::Drafting(draft) => {

@@ -19,7 +19,11 @@ pub enum HistoryError {
 
 // Prints the transcript of the input after what is in `out`. Where there is no memory for it, some first lines of it stand there, all of them
 // whole.
-pub fn run<W: WaitingLine + Drop, S: SlotClock + Drop>(heap: Global, input: &[u8], out: &mut String) -> Result<(), HistoryError>
+pub fn run<W: WaitingLine + Drop, S: SlotClock + Drop>(
+    heap: Global,
+    input: &[u8],
+    out: &mut String,
+) -> Result<(), HistoryError>
     ensures { λ r. ⌜ Cases r (λ _. string-bytes (now (out .exit)) ≡ string-bytes (now (out .entry)) ++ transcript (now (input .entry))) (λ _. Front (string-bytes (now (out .entry))) (printed-lines (now (input .entry))) (string-bytes (now (out .exit)))) ⌝ }
 {
     let clerk: LinkClerk<W, S> = LinkClerk::Before;

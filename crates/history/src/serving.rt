@@ -18,11 +18,18 @@ use tick_machine::call::Answer;
 use waiting_line::line::WaitingLine;
 
 // Hands out a slip, if none is in hand.
-fn take<W: WaitingLine, S: SlotClock>(link: Link<W, S>, hand: Option<Slip>, n: u64) -> (LinkClerk<W, S>, Reply)
+fn take<W: WaitingLine, S: SlotClock>(
+    link: Link<W, S>,
+    hand: Option<Slip>,
+    n: u64,
+) -> (LinkClerk<W, S>, Reply)
     ensures { λ r. ⌜ ((s : Stage) → At-link (W·WaitingLine .pairs) (W·WaitingLine .capacity) (S·SlotClock .state) s link hand → Went (W·WaitingLine .pairs) (W·WaitingLine .capacity) (S·SlotClock .state) (obey n s command.Take) (r .0) (r .1)) ⌝ }
 {
     match hand {
-        Some(slip) => (LinkClerk::Serving(link, Some(slip)), Reply::Fault(Cause::Untimely, n, 1)),
+        Some(slip) => (
+            LinkClerk::Serving(link, Some(slip)),
+            Reply::Fault(Cause::Untimely, n, 1),
+        ),
         None => {
             let mut link = link;
             let taken = link.collect();
@@ -33,18 +40,31 @@ fn take<W: WaitingLine, S: SlotClock>(link: Link<W, S>, hand: Option<Slip>, n: u
 }
 
 // Files the packet of the slip in hand.
-fn file<W: WaitingLine, S: SlotClock>(link: Link<W, S>, hand: Option<Slip>, n: u64) -> (LinkClerk<W, S>, Reply)
+fn file<W: WaitingLine, S: SlotClock>(
+    link: Link<W, S>,
+    hand: Option<Slip>,
+    n: u64,
+) -> (LinkClerk<W, S>, Reply)
     ensures { λ r. ⌜ ((s : Stage) → At-link (W·WaitingLine .pairs) (W·WaitingLine .capacity) (S·SlotClock .state) s link hand → Went (W·WaitingLine .pairs) (W·WaitingLine .capacity) (S·SlotClock .state) (obey n s command.File) (r .0) (r .1)) ⌝ }
 {
     match hand {
-        None => (LinkClerk::Serving(link, None), Reply::Fault(Cause::Untimely, n, 1)),
+        None => (
+            LinkClerk::Serving(link, None),
+            Reply::Fault(Cause::Untimely, n, 1),
+        ),
         Some(slip) => {
             let mut link = link;
             match link.file(slip) {
-                Ok(number) => (LinkClerk::Serving(link, None), Reply::Answer(Answer::Filed(number))),
+                Ok(number) => (
+                    LinkClerk::Serving(link, None),
+                    Reply::Answer(Answer::Filed(number)),
+                ),
                 Err(refused) => {
                     let (e, kept) = refused;
-                    (LinkClerk::Serving(link, Some(kept)), Reply::Answer(Answer::Refused(e)))
+                    (
+                        LinkClerk::Serving(link, Some(kept)),
+                        Reply::Answer(Answer::Refused(e)),
+                    )
                 }
             }
         }
@@ -52,18 +72,31 @@ fn file<W: WaitingLine, S: SlotClock>(link: Link<W, S>, hand: Option<Slip>, n: u
 }
 
 // Returns the packet of the slip in hand.
-fn give_back<W: WaitingLine, S: SlotClock>(link: Link<W, S>, hand: Option<Slip>, n: u64) -> (LinkClerk<W, S>, Reply)
+fn give_back<W: WaitingLine, S: SlotClock>(
+    link: Link<W, S>,
+    hand: Option<Slip>,
+    n: u64,
+) -> (LinkClerk<W, S>, Reply)
     ensures { λ r. ⌜ ((s : Stage) → At-link (W·WaitingLine .pairs) (W·WaitingLine .capacity) (S·SlotClock .state) s link hand → Went (W·WaitingLine .pairs) (W·WaitingLine .capacity) (S·SlotClock .state) (obey n s command.Return) (r .0) (r .1)) ⌝ }
 {
     match hand {
-        None => (LinkClerk::Serving(link, None), Reply::Fault(Cause::Untimely, n, 1)),
+        None => (
+            LinkClerk::Serving(link, None),
+            Reply::Fault(Cause::Untimely, n, 1),
+        ),
         Some(slip) => {
             let mut link = link;
             match link.give_back(slip) {
-                Ok(number) => (LinkClerk::Serving(link, None), Reply::Answer(Answer::Returned(number))),
+                Ok(number) => (
+                    LinkClerk::Serving(link, None),
+                    Reply::Answer(Answer::Returned(number)),
+                ),
                 Err(refused) => {
                     let (e, kept) = refused;
-                    (LinkClerk::Serving(link, Some(kept)), Reply::Answer(Answer::Refused(e)))
+                    (
+                        LinkClerk::Serving(link, Some(kept)),
+                        Reply::Answer(Answer::Refused(e)),
+                    )
                 }
             }
         }
@@ -71,7 +104,12 @@ fn give_back<W: WaitingLine, S: SlotClock>(link: Link<W, S>, hand: Option<Slip>,
 }
 
 // A command at an open link.
-pub fn serve<W: WaitingLine, S: SlotClock>(link: Link<W, S>, hand: Option<Slip>, n: u64, command: Command) -> (LinkClerk<W, S>, Reply)
+pub fn serve<W: WaitingLine, S: SlotClock>(
+    link: Link<W, S>,
+    hand: Option<Slip>,
+    n: u64,
+    command: Command,
+) -> (LinkClerk<W, S>, Reply)
     ensures { λ r. ⌜ ((s : Stage) → At-link (W·WaitingLine .pairs) (W·WaitingLine .capacity) (S·SlotClock .state) s link hand → Went (W·WaitingLine .pairs) (W·WaitingLine .capacity) (S·SlotClock .state) (obey n s command) (r .0) (r .1)) ⌝ }
 {
     let mut link = link;
@@ -95,8 +133,9 @@ pub fn serve<W: WaitingLine, S: SlotClock>(link: Link<W, S>, hand: Option<Slip>,
         Command::Take => take(link, hand, n),
         Command::File => file(link, hand, n),
         Command::Return => give_back(link, hand, n),
-        Command::Make(_, _, _, _) => (LinkClerk::Serving(link, hand), Reply::Fault(Cause::Untimely, n, 1)),
-        Command::Add(_) => (LinkClerk::Serving(link, hand), Reply::Fault(Cause::Untimely, n, 1)),
-        Command::Open => (LinkClerk::Serving(link, hand), Reply::Fault(Cause::Untimely, n, 1)),
+        Command::Make(_, _, _, _) | Command::Add(_) | Command::Open => (
+            LinkClerk::Serving(link, hand),
+            Reply::Fault(Cause::Untimely, n, 1),
+        ),
     }
 }

@@ -19,12 +19,25 @@ use tick_machine::call::Answer;
 use waiting_line::line::WaitingLine;
 
 // Only a link can be made.
-pub fn begin<W: WaitingLine + Drop, S: SlotClock>(heap: Global, n: u64, command: Command) -> (LinkClerk<W, S>, Result<Reply, AllocError>)
+pub fn begin<W: WaitingLine + Drop, S: SlotClock>(
+    heap: Global,
+    n: u64,
+    command: Command,
+) -> (LinkClerk<W, S>, Result<Reply, AllocError>)
     ensures { λ r. ⌜ Obeyed (Stands (W·WaitingLine .pairs) (W·WaitingLine .capacity) (S·SlotClock .state)) before (obey n before command) (r .0) (r .1) ⌝ }
 {
     match command {
-        Command::Make(number, largest, capacity, weight) => match Draft::<W>::make(heap, number, largest, capacity, weight) {
-            Ok(made) => (LinkClerk::Drafting(made), Ok(Reply::Answer(Answer::Made(number)))),
+        Command::Make(number, largest, capacity, weight) => match Draft::<W>::make(
+            heap,
+            number,
+            largest,
+            capacity,
+            weight,
+        ) {
+            Ok(made) => (
+                LinkClerk::Drafting(made),
+                Ok(Reply::Answer(Answer::Made(number))),
+            ),
             Err(error) => match error {
                 MakeError::Refused(e) => (LinkClerk::Before, Ok(Reply::Answer(Answer::Refused(e)))),
                 MakeError::NoMemory => (LinkClerk::Before, Err(AllocError)),
@@ -43,7 +56,11 @@ pub fn begin<W: WaitingLine + Drop, S: SlotClock>(heap: Global, n: u64, command:
 }
 
 // Sessions are added to a draft, or it is opened.
-pub fn draw_up<W: WaitingLine, S: SlotClock>(draft: Draft<W>, n: u64, command: Command) -> (LinkClerk<W, S>, Reply)
+pub fn draw_up<W: WaitingLine, S: SlotClock>(
+    draft: Draft<W>,
+    n: u64,
+    command: Command,
+) -> (LinkClerk<W, S>, Reply)
     ensures { λ r. ⌜ ((c : Config) → Drafts (W·WaitingLine .pairs) (W·WaitingLine .capacity) c draft → Went (W·WaitingLine .pairs) (W·WaitingLine .capacity) (S·SlotClock .state) (obey n (at-draft-of c) command) (r .0) (r .1)) ⌝ }
 {
     match command {
@@ -54,7 +71,10 @@ pub fn draw_up<W: WaitingLine, S: SlotClock>(draft: Draft<W>, n: u64, command: C
         }
         Command::Open => {
             let (link, round) = draft.open();
-            (LinkClerk::Serving(link, None), Reply::Answer(Answer::Opened(round)))
+            (
+                LinkClerk::Serving(link, None),
+                Reply::Answer(Answer::Opened(round)),
+            )
         }
         Command::Make(_, _, _, _)
         | Command::Arrive(_, _, _)
@@ -63,6 +83,9 @@ pub fn draw_up<W: WaitingLine, S: SlotClock>(draft: Draft<W>, n: u64, command: C
         | Command::AskTotals
         | Command::Take
         | Command::File
-        | Command::Return => (LinkClerk::Drafting(draft), Reply::Fault(Cause::Untimely, n, 1)),
+        | Command::Return => (
+            LinkClerk::Drafting(draft),
+            Reply::Fault(Cause::Untimely, n, 1),
+        ),
     }
 }

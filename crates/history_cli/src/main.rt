@@ -3,10 +3,10 @@
 mod parts;
 mod printed;
 
+use history::run::HistoryError;
 use parts::Parts;
 use parts::parts_named;
 use printed::run_with;
-use history::run::HistoryError;
 use std::env;
 use std::error::AnyError;
 use std::io::Read;
@@ -21,7 +21,8 @@ fn chosen(rt: &LibcRuntime) -> Result<Parts, AnyError> {
         None => Ok(Parts::HeapJump),
         Some(word) => match parts_named(word.as_str()) {
             Some(parts) => Ok(parts),
-            None => Err("no such parts: heap-step, heap-jump, sorted-step and sorted-jump can be chosen".into()),
+            None =>
+                Err("no such parts: heap-step, heap-jump, sorted-step and sorted-jump can be chosen".into()),
         },
     }
 }

@@ -18,7 +18,12 @@ use waiting_line::sorted_line::SortedLine;
 use waiting_line::sorted_line::SortedWaits;
 
 // Whatever the parts are, the same is printed.
-pub fn run_with(parts: Parts, heap: Global, input: &[u8], out: &mut String) -> Result<(), HistoryError>
+pub fn run_with(
+    parts: Parts,
+    heap: Global,
+    input: &[u8],
+    out: &mut String,
+) -> Result<(), HistoryError>
     ensures { λ r. ⌜ Cases r (λ _. string-bytes (now (out .exit)) ≡ string-bytes (now (out .entry)) ++ transcript (now (input .entry))) (λ _. Front (string-bytes (now (out .entry))) (printed-lines (now (input .entry))) (string-bytes (now (out .exit)))) ⌝ }
 {
     match parts {

@@ -20,7 +20,13 @@ use std::alloc::Global;
 const LONGEST: usize = 65536;
 
 // The answer to line n.
-fn answer_line<C: Clerk>(heap: Global, clerk: C, n: u64, line: &[u8], out: &mut String) -> (C, Result<(), AllocError>)
+fn answer_line<C: Clerk>(
+    heap: Global,
+    clerk: C,
+    n: u64,
+    line: &[u8],
+    out: &mut String,
+) -> (C, Result<(), AllocError>)
     requires { ⌜ length (now line) ≤ 65536 ⌝ }
     ensures { λ r. ⌜ ((s : Stage) → C·Clerk .stands s clerk → Answered (C·Clerk .stands) n s (now (line .entry)) (string-bytes (now (out .entry))) (string-bytes (now (out .exit))) (r .0) (r .1)) ⌝ }
 {
@@ -28,7 +34,10 @@ fn answer_line<C: Clerk>(heap: Global, clerk: C, n: u64, line: &[u8], out: &mut 
         return (clerk, Ok(()));
     }
     match read(clerk.phase(), line) {
-        Err(fault) => (clerk, put_reply(heap, out, Reply::Fault(fault.cause, n, fault.byte))),
+        Err(fault) => (
+            clerk,
+            put_reply(heap, out, Reply::Fault(fault.cause, n, fault.byte)),
+        ),
         Ok(command) => {
             let (next, answer) = clerk.obey(heap, n, command);
             match answer {
@@ -40,7 +49,12 @@ fn answer_line<C: Clerk>(heap: Global, clerk: C, n: u64, line: &[u8], out: &mut 
 }
 
 // Answers the input from its first line on. The clerk stands before an accepted link.
-pub fn print_history<C: Clerk>(heap: Global, start: C, input: &[u8], out: &mut String) -> Result<(), AllocError>
+pub fn print_history<C: Clerk>(
+    heap: Global,
+    start: C,
+    input: &[u8],
+    out: &mut String,
+) -> Result<(), AllocError>
     requires { ⌜ C·Clerk .stands before start ⌝ }
     ensures { λ r. ⌜ Cases r (λ _. string-bytes (now (out .exit)) ≡ string-bytes (now (out .entry)) ++ transcript (now (input .entry))) (λ _. Front (string-bytes (now (out .entry))) (printed-lines (now (input .entry))) (string-bytes (now (out .exit)))) ⌝ }
 {

@@ -5,11 +5,11 @@ ghost use Rattle.std.specs.Of.String.{string-bytes};
 ghost use Rattle.std.specs.Results.{Cases};
 ghost use Rattle.std.specs.declared.option.Option.the-variants.{Some};
 ghost use Rattle.history_reply.specs.Replies.{answer-text, spoken, line-of};
+use crate::replies::Reply;
+use crate::replies::Said;
 use std::alloc::AllocError;
 use std::alloc::Global;
 use std::fmt;
-use crate::replies::Reply;
-use crate::replies::Said;
 use tick_machine::call::Answer;
 
 pub impl fmt::Display for Said as SaidDisplay {
@@ -23,11 +23,23 @@ pub impl fmt::Display for Said as SaidDisplay {
             Answer::Accepted(number, stamp, latest) => write!(f, "arr {number} {stamp} {latest}"),
             Answer::Moved(clock, left) => write!(f, "at {clock} {left}"),
             Answer::Collected(None) => write!(f, "took none"),
-            Answer::Collected(Some(s)) => write!(f, "took {} {} {} {} {}", s.packet, s.session, s.tag, s.started, s.left),
+            Answer::Collected(Some(s)) => write!(
+                f,
+                "took {} {} {} {} {}",
+                s.packet, s.session, s.tag, s.started, s.left
+            ),
             Answer::Filed(number) => write!(f, "filed {number}"),
             Answer::Returned(number) => write!(f, "back {number}"),
-            Answer::FiguresAre(g) => write!(f, "figs {} {} {} {} {}", g.accepted, g.sent, g.served, g.lead, g.waiting),
-            Answer::TotalsAre(t) => write!(f, "tots {} {} {} {} {} {}", t.waiting, t.sending, t.left, t.out, t.filed, t.returned),
+            Answer::FiguresAre(g) => write!(
+                f,
+                "figs {} {} {} {} {}",
+                g.accepted, g.sent, g.served, g.lead, g.waiting
+            ),
+            Answer::TotalsAre(t) => write!(
+                f,
+                "tots {} {} {} {} {} {}",
+                t.waiting, t.sending, t.left, t.out, t.filed, t.returned
+            ),
             Answer::Refused(e) => {
                 let number = e.number();
                 match e.inside() {

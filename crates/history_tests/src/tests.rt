@@ -42,7 +42,11 @@ const CASES: [(&str, &str); 5] = [
     ),
 ];
 
-fn prints<W: WaitingLine + Drop, S: SlotClock + Drop>(heap: Global, input: &[u8], expected: &str) -> Result<(), Fail> {
+fn prints<W: WaitingLine + Drop, S: SlotClock + Drop>(
+    heap: Global,
+    input: &[u8],
+    expected: &str,
+) -> Result<(), Fail> {
     let mut out = String::new(heap);
     run::<W, S>(heap, input, &mut out)?;
     check_eq(out.as_str(), expected)

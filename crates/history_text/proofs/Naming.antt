@@ -1,4 +1,4 @@
--- The word that a field spells. Assumes nothing.
+-- Bytes that are spelled as a word are that word, and others are none. Assumes nothing.
 use mathlib.Core.Path.{_≡_, refl, sym, ap, _∙_}
 use mathlib.Core.Bool.{Bool, true, false}
 use mathlib.Core.Logic.{⊎-elim}
@@ -13,27 +13,27 @@ use Rattle.history_text.specs.declared.words.Word.{Word}
 use Rattle.history_text.specs.declared.words.Word.the-variants.{Link, Sess, Open, Arr, At, Figs, Tots, Take, Filed, Back}
 use Rattle.history_text.specs.Vocabulary.{spelled, word-among, vocabulary, word, Spells}
 
-apart : (f : List ℕ) (w : Word) → (f ≡ spelled w → ⊥) → sameBytes f (spelled w) ≡ false
-apart f w no-word = ⊎-elim (λ t. absurd (no-word (sameBytes-decides f (spelled w) .0 t))) (λ e. e) (cases-bool (sameBytes f (spelled w)))
+spelled-otherwise : (xs : List ℕ) (w : Word) → (xs ≡ spelled w → ⊥) → sameBytes xs (spelled w) ≡ false
+spelled-otherwise xs w none-spelled = ⊎-elim (λ t. absurd (none-spelled (sameBytes-decides xs (spelled w) .0 t))) (λ e. e) (cases-bool (sameBytes xs (spelled w)))
 
-none-among : (ws : List Word) (f : List ℕ) → ((w : Word) → f ≡ spelled w → ⊥) → None ≡ word-among ws f
-none-among [] f no-word = refl
-none-among (w ∷ ws) f no-word = none-among ws f no-word ∙ sym (cond-false (sameBytes f (spelled w)) (Some w) (word-among ws f) (apart f w (no-word w)))
+word-among-none : (ws : List Word) (xs : List ℕ) → ((w : Word) → xs ≡ spelled w → ⊥) → None ≡ word-among ws xs
+word-among-none [] xs none-spelled = refl
+word-among-none (w ∷ ws) xs none-spelled = word-among-none ws xs none-spelled ∙ sym (cond-false (sameBytes xs (spelled w)) (Some w) (word-among ws xs) (spelled-otherwise xs w (none-spelled w)))
 
-itself : (w : Word) → Some w ≡ word (spelled w)
+word-of-spelled : (w : Word) → Some w ≡ word (spelled w)
 unfolding word
-itself Link = refl
-itself Sess = refl
-itself Open = refl
-itself Arr = refl
-itself At = refl
-itself Figs = refl
-itself Tots = refl
-itself Take = refl
-itself Filed = refl
-itself Back = refl
+word-of-spelled Link = refl
+word-of-spelled Sess = refl
+word-of-spelled Open = refl
+word-of-spelled Arr = refl
+word-of-spelled At = refl
+word-of-spelled Figs = refl
+word-of-spelled Tots = refl
+word-of-spelled Take = refl
+word-of-spelled Filed = refl
+word-of-spelled Back = refl
 
-pub word-is : (f : List ℕ) (r : Option Word) → Spells f r → r ≡ word f
+pub word-is : (xs : List ℕ) (r : Option Word) → Spells xs r → r ≡ word xs
 unfolding word
-word-is f None h = none-among vocabulary f h
-word-is f (Some w) h = itself w ∙ ap word (sym h)
+word-is xs None h = word-among-none vocabulary xs h
+word-is xs (Some w) h = word-of-spelled w ∙ ap word (sym h)

@@ -50,7 +50,10 @@ impl<'a> Fields<'a> {
         ensures place { λ r. ⌜ r .place ≡ 1 ⌝ }
         ensures reach { λ r. ⌜ reach r ≡ 1 + length (now (line .entry)) ⌝ }
     {
-        Fields { rest: Some(line), place: 1 }
+        Fields {
+            rest: Some(line),
+            place: 1,
+        }
     }
 
     // How many are still to come.
@@ -76,12 +79,24 @@ impl<'a> Fields<'a> {
             None => None,
             Some(text) => match split(text, b' ') {
                 Cut::Last(bytes) => {
-                    *self = Fields { rest: None, place: place + (bytes.len() + 1) };
-                    Some(Field { token: token_of(bytes), place })
+                    *self = Fields {
+                        rest: None,
+                        place: place + (bytes.len() + 1),
+                    };
+                    Some(Field {
+                        token: token_of(bytes),
+                        place,
+                    })
                 }
                 Cut::More(bytes, rest) => {
-                    *self = Fields { rest: Some(rest), place: place + (bytes.len() + 1) };
-                    Some(Field { token: token_of(bytes), place })
+                    *self = Fields {
+                        rest: Some(rest),
+                        place: place + (bytes.len() + 1),
+                    };
+                    Some(Field {
+                        token: token_of(bytes),
+                        place,
+                    })
                 }
             },
         }

@@ -99,13 +99,22 @@ fn read_fields(phase: Phase, fields: &mut Fields) -> Result<Command, Fault>
     ensures { λ r. ⌜ r ≡ reading phase (coming (now (fields .entry))) ⌝ }
 {
     let Some(first) = fields.next_field() else {
-        return Err(Fault { cause: Cause::Unknown, byte: 1 });
+        return Err(Fault {
+            cause: Cause::Unknown,
+            byte: 1,
+        });
     };
     match judge(phase, first.token, fields.count()) {
-        Err(cause) => Err(Fault { cause, byte: first.place }),
+        Err(cause) => Err(Fault {
+            cause,
+            byte: first.place,
+        }),
         Ok(word) => match command_from(word, fields) {
             Ok(command) => Ok(command),
-            Err(byte) => Err(Fault { cause: Cause::NoNumber, byte }),
+            Err(byte) => Err(Fault {
+                cause: Cause::NoNumber,
+                byte,
+            }),
         },
     }
 }

@@ -28,7 +28,12 @@ fn spell(bytes: &[u8]) -> Option<Word>
             ('a', 'r', 'r') => Some(Word::Arr),
             _ => None,
         },
-        [a, b, c, d] => match (char::from(*a), char::from(*b), char::from(*c), char::from(*d)) {
+        [a, b, c, d] => match (
+            char::from(*a),
+            char::from(*b),
+            char::from(*c),
+            char::from(*d),
+        ) {
             ('l', 'i', 'n', 'k') => Some(Word::Link),
             ('s', 'e', 's', 's') => Some(Word::Sess),
             ('o', 'p', 'e', 'n') => Some(Word::Open),
@@ -38,7 +43,13 @@ fn spell(bytes: &[u8]) -> Option<Word>
             ('b', 'a', 'c', 'k') => Some(Word::Back),
             _ => None,
         },
-        [a, b, c, d, e] => match (char::from(*a), char::from(*b), char::from(*c), char::from(*d), char::from(*e)) {
+        [a, b, c, d, e] => match (
+            char::from(*a),
+            char::from(*b),
+            char::from(*c),
+            char::from(*d),
+            char::from(*e),
+        ) {
             ('f', 'i', 'l', 'e', 'd') => Some(Word::Filed),
             _ => None,
         },

@@ -20,8 +20,7 @@ loop-line-again g c =
     let out = string-bytes (l .out) in
     let new = string-bytes (c .answer-line-next .last .out) in
     let next = c .answer-line-next .result .0 in
-    let told = answered-ok (g .C·Clerk .stands) (l .n) (s .stage) line out new next (c .answer-line-next .result .1) (c .in-Ok .field-0) (c .in-Ok .is) (c .answer-line-next .ensures (s .stage) (s .here)) in
-    (
+    let told = answered-ok (g .C·Clerk .stands) (l .n) (s .stage) line out new next (c .answer-line-next .result .1) (c .in-Ok .field-0) (c .in-Ok .is) (c .answer-line-next .ensures (s .stage) (s .here)) in (
       search needs,
       search needs,
       one-line (g .C·Clerk .stands) (string-bytes (c .args .out .now)) (printed-lines (c .args .input .now)) out new line (l .rest .now) (c .in-More .more .now) (l .n) (l .clerk) next (c .in-More .ensures tt .parts) s (told .0) (told .1),

@@ -1,7 +1,7 @@
 -- A collection brings the slip into hand, and there is room for it. Assumes nothing.
 use mathlib.Core.Path.{_≡_, refl, sym, ap, subst, _∙_}
-use mathlib.Core.List.{List, [], _∷_, _++_, map}
-use Prim.Native.Nat.{ℕ, _+_, _≤_, _<_}
+use mathlib.Core.List.{List, [], _∷_, _++_}
+use Prim.Native.Nat.{ℕ, _+_, _≤_}
 use native.Mathlib.Omega.{arith}
 use lib.ListN.{length, length-map}
 use Rattle.std.proofs.shelf.Lists.{map-push, length-push}
@@ -12,7 +12,6 @@ use Rattle.tick_machine.specs.declared.packet.Departed.{Departed}
 use Rattle.tick_machine.specs.declared.packet.SlipCopy.{SlipCopy}
 use Rattle.tick_machine.specs.declared.call.Call.{Call}
 use Rattle.tick_machine.specs.declared.call.Call.the-variants.{Collect}
-use Rattle.tick_machine.specs.declared.call.Answer.{Answer}
 use Rattle.tick_machine.specs.declared.call.Answer.the-variants.{Collected}
 use Rattle.tick_machine.specs.Desk.{first, handed, slip}
 use Rattle.tick_machine.specs.Machine.{Config}

@@ -1,22 +1,15 @@
 -- Slips in hand: taking one, putting one in, and what a settlement leaves. Assumes nothing.
 use mathlib.Core.Path.{_≡_, refl, sym, ap, subst, _∙_}
-use mathlib.Core.Bool.{Bool, true, false, cond}
-use mathlib.Core.List.{List, [], _∷_, _++_, map}
-use Prim.Native.Nat.{ℕ, zero, suc, _+_, _≤_, _<_}
+use mathlib.Core.List.{List, [], _∷_, _++_}
+use Prim.Native.Nat.{ℕ, zero, suc, _+_, _<_}
 use native.Mathlib.Omega.{arith}
 use lib.ListN.{length, getD, length-map}
-use Rattle.std.proofs.shelf.Lists.{getD-map, map-push}
+use Rattle.std.proofs.shelf.Lists.{getD-map}
 use Rattle.std.specs.Holes.{removed}
-use Rattle.std.specs.declared.option.Option.the-variants.{Some, None}
-use Rattle.std.specs.declared.result.Result.the-variants.{Ok, Err}
-use Rattle.tick_machine.specs.declared.packet.Departed.{Departed}
-use Rattle.tick_machine.specs.declared.packet.SlipCopy.{SlipCopy}
 use Rattle.tick_machine.specs.declared.refusal.Refusal.the-variants.{OtherLink, NotOut}
-use Rattle.tick_machine.specs.declared.call.Answer.the-variants.{Collected}
-use Rattle.tick_machine.specs.Lists.{All, none, more}
-use Rattle.tick_machine.specs.Desk.{first, handed, slip, among, without}
-use Rattle.tick_machine.specs.Machine.{Config, Machine}
-use Rattle.tick_machine.specs.Life.{slip-of, settlement}
+use Rattle.tick_machine.specs.Lists.{none, more}
+use Rattle.tick_machine.specs.Desk.{slip, among}
+use Rattle.tick_machine.specs.Life.{settlement}
 use Rattle.link.specs.declared.slip.Slip.{Slip}
 use Rattle.link.specs.Places.{At, Nowhere, itself}
 use Rattle.link.proofs.Slips.{at-among, at-without, nowhere-among, other-link, not-out}

@@ -1,6 +1,6 @@
 -- A whole life of a link. Assumes nothing.
 use mathlib.Core.Path.{_≡_, refl, sym, ap, subst, _∙_}
-use mathlib.Core.Bool.{Bool, true, false, cond, _&&_}
+use mathlib.Core.Bool.{Bool, true, false, cond}
 use mathlib.Core.List.{List, [], _∷_, _++_, reverse, append-assoc}
 use Prim.Native.Nat.{ℕ}
 use native.Mathlib.Omega.{arith}
@@ -13,7 +13,7 @@ use Rattle.tick_machine.specs.declared.refusal.Refusal.{Refusal}
 use Rattle.tick_machine.specs.declared.call.Call.{Call}
 use Rattle.tick_machine.specs.declared.call.Answer.{Answer}
 use Rattle.tick_machine.specs.declared.call.Answer.the-variants.{Made, Opened, Refused}
-use Rattle.tick_machine.specs.Lists.{All, none}
+use Rattle.tick_machine.specs.Lists.{none}
 use Rattle.tick_machine.specs.Slots.{round-length}
 use Rattle.tick_machine.specs.Machine.{Config}
 use Rattle.tick_machine.specs.Life.{within, made, adding, with-session, added, drafted, answers}

@@ -1,7 +1,6 @@
 // The slips in hand: those that a link has handed out and that are not settled yet.
 ghost use mathlib.Core.Path.{_≡_};
-ghost use Prim.Native.Nat.{ℕ, _+_, _<_, _≤_};
-ghost use lib.ListN.{length, getD};
+ghost use Prim.Native.Nat.{_<_, _≤_};
 ghost use Rattle.std.specs.Options.{Cases as BySome};
 ghost use Rattle.std.specs.Results.{Cases};
 ghost use Rattle.std.specs.Of.Vec.{vec-len, vec-cap, vec-items};
@@ -60,7 +59,12 @@ pub fn collect<W: WaitingLine, S: SlotClock>(link: &mut Link<W, S>, slips: &mut 
 }
 
 // The slip of that link number and packet number is filed. (A slip in hand is never refused.)
-pub fn file<W: WaitingLine, S: SlotClock>(link: &mut Link<W, S>, slips: &mut Vec<Slip>, number: u64, packet: u64) -> Answer
+pub fn file<W: WaitingLine, S: SlotClock>(
+    link: &mut Link<W, S>,
+    slips: &mut Vec<Slip>,
+    number: u64,
+    packet: u64,
+) -> Answer
     ensures answered { λ r. ⌜ Answers (W·WaitingLine .pairs) (W·WaitingLine .capacity) (S·SlotClock .state) (now (link .entry)) (vec-items (now (slips .entry))) (File number packet) r (now (link .exit)) (vec-items (now (slips .exit))) ⌝ }
     ensures room { λ _. ⌜ vec-cap (now (slips .exit)) ≡ vec-cap (now (slips .entry)) ⌝ }
 {
@@ -77,7 +81,12 @@ pub fn file<W: WaitingLine, S: SlotClock>(link: &mut Link<W, S>, slips: &mut Vec
 }
 
 // The slip of that link number and packet number is returned.
-pub fn give_back<W: WaitingLine, S: SlotClock>(link: &mut Link<W, S>, slips: &mut Vec<Slip>, number: u64, packet: u64) -> Answer
+pub fn give_back<W: WaitingLine, S: SlotClock>(
+    link: &mut Link<W, S>,
+    slips: &mut Vec<Slip>,
+    number: u64,
+    packet: u64,
+) -> Answer
     ensures answered { λ r. ⌜ Answers (W·WaitingLine .pairs) (W·WaitingLine .capacity) (S·SlotClock .state) (now (link .entry)) (vec-items (now (slips .entry))) (Return number packet) r (now (link .exit)) (vec-items (now (slips .exit))) ⌝ }
     ensures room { λ _. ⌜ vec-cap (now (slips .exit)) ≡ vec-cap (now (slips .entry)) ⌝ }
 {

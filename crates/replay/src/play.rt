@@ -1,7 +1,7 @@
 // A whole history in one call.
 ghost use mathlib.Core.Path.{_≡_};
 ghost use mathlib.Core.List.{[]};
-ghost use Prim.Native.Nat.{ℕ, _+_, _<_, _≤_};
+ghost use Prim.Native.Nat.{_+_, _<_, _≤_};
 ghost use lib.ListN.{length};
 ghost use Rattle.std.specs.Of.Vec.{vec-len, vec-cap, vec-items};
 ghost use Rattle.std.specs.Vec.{made};
@@ -41,7 +41,14 @@ fn room_for(heap: Global, addings: usize, calls: usize) -> Result<Vec<Answer>, A
 }
 
 // The life of a link that was made: addings, the opening, calls. No memory is asked for.
-fn live<W: WaitingLine + Drop, S: SlotClock + Drop>(number: u64, mut draft: Draft<W>, addings: &[u64], calls: &[Call], mut answers: Vec<Answer>, mut slips: Vec<Slip>) -> Played
+fn live<W: WaitingLine + Drop, S: SlotClock + Drop>(
+    number: u64,
+    mut draft: Draft<W>,
+    addings: &[u64],
+    calls: &[Call],
+    mut answers: Vec<Answer>,
+    mut slips: Vec<Slip>,
+) -> Played
     requires drafts { ⌜ ((c : Config) × Drafts (W·WaitingLine .pairs) (W·WaitingLine .capacity) c draft) ⌝ }
     requires places { ⌜ (vec-items slips ≡ []) × (1024 ≤ vec-cap slips) ⌝ }
     requires room { ⌜ (vec-items answers ≡ []) × (vec-len answers ≡ 0) × (length (now addings) + length (now calls) + 2 ≤ vec-cap answers) ⌝ }
@@ -58,11 +65,22 @@ fn live<W: WaitingLine + Drop, S: SlotClock + Drop>(number: u64, mut draft: Draf
 
 // Plays a history: a making, addings, the opening, and calls. A making that is refused is answered, and nothing more is done. The slips that are
 // not settled at the end are handed back.
-pub fn play<W: WaitingLine + Drop, S: SlotClock + Drop>(heap: Global, making: Making, addings: &[u64], calls: &[Call]) -> Result<Played, AllocError>
+pub fn play<W: WaitingLine + Drop, S: SlotClock + Drop>(
+    heap: Global,
+    making: Making,
+    addings: &[u64],
+    calls: &[Call],
+) -> Result<Played, AllocError>
     ensures { λ r. ⌜ made r (λ p. Plays making (now (addings .entry)) (now (calls .entry)) (vec-items (p .answers)) (vec-items (p .slips))) ⌝ }
 {
     let mut answers = room_for(heap, addings.len(), calls.len())?;
-    match Draft::<W>::make(heap, making.number, making.largest, making.capacity, making.weight) {
+    match Draft::<W>::make(
+        heap,
+        making.number,
+        making.largest,
+        making.capacity,
+        making.weight,
+    ) {
         Ok(draft) => {
             let slips = Vec::with_capacity(heap, UNSETTLED)?;
             let played = live::<W, S>(making.number, draft, addings, calls, answers, slips);

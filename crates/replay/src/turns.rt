@@ -1,7 +1,7 @@
 // One call after the other on an open link, and one adding after the other on a draft.
 ghost use mathlib.Core.Path.{_≡_};
 ghost use mathlib.Core.List.{[]};
-ghost use Prim.Native.Nat.{ℕ, _+_, _<_, _≤_};
+ghost use Prim.Native.Nat.{_+_, _<_, _≤_};
 ghost use lib.ListN.{length};
 ghost use Rattle.std.specs.Of.Vec.{vec-len, vec-cap, vec-items};
 ghost use Rattle.tick_machine.specs.Machine.{Config};
@@ -23,7 +23,11 @@ use tick_machine::call::Call;
 use waiting_line::line::WaitingLine;
 
 // A call of an open link, with the slips in hand.
-fn answer<W: WaitingLine, S: SlotClock>(link: &mut Link<W, S>, slips: &mut Vec<Slip>, call: Call) -> Answer
+fn answer<W: WaitingLine, S: SlotClock>(
+    link: &mut Link<W, S>,
+    slips: &mut Vec<Slip>,
+    call: Call,
+) -> Answer
     requires held { ⌜ Reached (W·WaitingLine .pairs) (W·WaitingLine .capacity) (S·SlotClock .state) (now link) (vec-items (now slips)) ⌝ }
     requires places { ⌜ 1024 ≤ vec-cap (now slips) ⌝ }
     ensures answered { λ r. ⌜ Answers (W·WaitingLine .pairs) (W·WaitingLine .capacity) (S·SlotClock .state) (now (link .entry)) (vec-items (now (slips .entry))) call r (now (link .exit)) (vec-items (now (slips .exit))) ⌝ }
@@ -41,7 +45,12 @@ fn answer<W: WaitingLine, S: SlotClock>(link: &mut Link<W, S>, slips: &mut Vec<S
 }
 
 // Every call, in order, on a link just opened: their answers come after those that are there.
-pub fn call_all<W: WaitingLine, S: SlotClock>(link: &mut Link<W, S>, slips: &mut Vec<Slip>, calls: &[Call], answers: &mut Vec<Answer>)
+pub fn call_all<W: WaitingLine, S: SlotClock>(
+    link: &mut Link<W, S>,
+    slips: &mut Vec<Slip>,
+    calls: &[Call],
+    answers: &mut Vec<Answer>,
+)
     requires fresh { ⌜ Fresh (W·WaitingLine .pairs) (W·WaitingLine .capacity) (S·SlotClock .state) (now link) (vec-items (now slips)) ⌝ }
     requires places { ⌜ 1024 ≤ vec-cap (now slips) ⌝ }
     requires room { ⌜ vec-len (now answers) + length (now calls) ≤ vec-cap (now answers) ⌝ }

@@ -1,5 +1,5 @@
 use native.Mathlib.Omega.{arith}
-use mathlib.Core.Path.{_≡_, refl, subst}
+use mathlib.Core.Path.{refl, subst}
 use mathlib.Core.List.{List}
 use Rattle.link.specs.declared.slip.Slip.{Slip}
 use Rattle.link.specs.Places.{At, Nowhere}

@@ -1,5 +1,4 @@
 use borrow.Author.Needs.{needs}
-use native.Mathlib.Omega.{arith}
 use Rattle.tick_machine.specs.Life.{drafted}
 use Rattle.replay.proofs.Living.{opened-held, lives}
 use Rattle.replay.proofs.play.live.Needs as need

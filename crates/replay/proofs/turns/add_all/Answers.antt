@@ -1,5 +1,5 @@
 use native.Mathlib.Omega.{arith}
-use mathlib.Core.Path.{_≡_, subst, _∙_}
+use mathlib.Core.Path.{subst, _∙_}
 use mathlib.Core.List.{List}
 use Prim.Native.Nat.{ℕ}
 use lib.Seq.{take-all}
@@ -11,8 +11,7 @@ use Rattle.replay.proofs.turns.add_all.Needs as need
 pub loop-weight-again : need.loop-weight-again
 loop-weight-again g c =
     let inv = c .loop-weight .inv in
-    let said = c .push-reserved .ensures in
-    (
+    let said = c .push-reserved .ensures in (
       omega (arith, said .len, inv .0),
       said .capacity ∙ inv .1,
       λ f h.

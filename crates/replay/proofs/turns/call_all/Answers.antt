@@ -1,5 +1,5 @@
 use native.Mathlib.Omega.{arith}
-use mathlib.Core.Path.{_≡_, subst, _∙_}
+use mathlib.Core.Path.{subst, _∙_}
 use mathlib.Core.List.{List}
 use lib.Seq.{take-all}
 use Rattle.std.specs.Of.Vec.{vec-items}
@@ -11,8 +11,7 @@ use Rattle.replay.proofs.turns.call_all.Needs as need
 pub loop-call-again : need.loop-call-again
 loop-call-again g c =
     let inv = c .loop-call .inv in
-    let said = c .push-reserved .ensures in
-    (
+    let said = c .push-reserved .ensures in (
       c .answer .ensures .room ∙ inv .0,
       omega (arith, said .len, inv .1),
       said .capacity ∙ inv .2,

@@ -8,8 +8,7 @@ use Rattle.std.proofs.shelf.Lists.{getD-map}
 use Rattle.std.specs.Holes.{removed}
 use Rattle.tick_machine.specs.declared.refusal.Refusal.the-variants.{OtherLink, NotOut}
 use Rattle.tick_machine.specs.Lists.{none, more}
-use Rattle.tick_machine.specs.Desk.{slip, among}
-use Rattle.tick_machine.specs.Life.{settlement}
+use Rattle.tick_machine.specs.Desk.{among}
 use Rattle.link.specs.declared.slip.Slip.{Slip}
 use Rattle.link.specs.Places.{At, Nowhere, itself}
 use Rattle.link.proofs.Slips.{at-among, at-without, nowhere-among, other-link, not-out}

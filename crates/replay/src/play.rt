@@ -1,7 +1,7 @@
 // A whole history in one call.
 ghost use mathlib.Core.Path.{_≡_};
 ghost use mathlib.Core.List.{[]};
-ghost use Prim.Native.Nat.{_+_, _<_, _≤_};
+ghost use Prim.Native.Nat.{_+_, _≤_};
 ghost use lib.ListN.{length};
 ghost use Rattle.std.specs.Of.Vec.{vec-len, vec-cap, vec-items};
 ghost use Rattle.std.specs.Vec.{made};

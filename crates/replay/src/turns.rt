@@ -1,7 +1,7 @@
 // One call after the other on an open link, and one adding after the other on a draft.
 ghost use mathlib.Core.Path.{_≡_};
 ghost use mathlib.Core.List.{[]};
-ghost use Prim.Native.Nat.{_+_, _<_, _≤_};
+ghost use Prim.Native.Nat.{_+_, _≤_};
 ghost use lib.ListN.{length};
 ghost use Rattle.std.specs.Of.Vec.{vec-len, vec-cap, vec-items};
 ghost use Rattle.tick_machine.specs.Machine.{Config};

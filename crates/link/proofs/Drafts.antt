@@ -39,7 +39,7 @@ pub fresh-length : (n : ℕ) (xs : List Session) (x : Session) → xs ≡ replic
 fresh-length n xs x e = ap length e ∙ length-replicate n x
 
 -- one adding more
-drafted-push : (c : Config) (ws : List ℕ) (w : ℕ) → drafted c (ws ++ w ∷ []) ≡ added (drafted c ws) w
+pub drafted-push : (c : Config) (ws : List ℕ) (w : ℕ) → drafted c (ws ++ w ∷ []) ≡ added (drafted c ws) w
 drafted-push c [] w = refl
 drafted-push c (x ∷ ws) w = drafted-push (added c x) ws w
 

@@ -40,6 +40,13 @@ fn lead_of(sent: u64, served: u64) -> i64
 }
 
 impl<W: WaitingLine, S: SlotClock> Link<W, S> {
+    // The link's number, which its slips say.
+    pub fn number(&self) -> u64
+        ensures { λ r. ⌜ r ≡ now (self .entry) .number ⌝ }
+    {
+        self.number
+    }
+
     // How many packets are on the line.
     pub(super) fn sending(&self) -> u64
         ensures { λ r. ⌜ r ≡ on-line (now (self .entry) .line) ⌝ }

@@ -1,0 +1,4 @@
+pub mod Hands
+pub mod Collecting
+pub mod Turning
+pub mod Living

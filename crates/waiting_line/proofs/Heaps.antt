@@ -15,9 +15,9 @@ use Rattle.heap_order.proofs.Sifting.{heaped-from, first-least}
 use Rattle.tick_machine.specs.Lists.{total, insert}
 use Rattle.waiting_line.specs.declared.pair.Pair.{Pair}
 use Rattle.waiting_line.specs.Lines.{stamp-of, holds, first, rest}
-use Rattle.waiting_line.specs.Kept.{blank, all-above, in-order, by-stamp, sorted, copies, reaching}
+use Rattle.waiting_line.specs.Kept.{blank, all-above, in-order, by-stamp, sorted, copies}
 use Rattle.waiting_line.proofs.Orders.{put-in-order}
-use Rattle.waiting_line.proofs.Sums.{total-shuffled, total-push, weight, weight-at, weight-off, hit, hit-at, hit-off, total-sorted, light, same-by-sums, not-there, Apart, sorted-in-order, holds-sorted, reach, reach-off}
+use Rattle.waiting_line.proofs.Sums.{total-shuffled, total-push, weight, weight-at, weight-off, hit, hit-at, hit-off, total-sorted, light, same-by-sums, not-there, Apart, sorted-in-order, holds-sorted}
 
 -- stamps are in a total order
 total-order : (x y : Pair) → by-stamp x y ≡ true → by-stamp y x ≡ false
@@ -40,9 +40,6 @@ pub put-sorted : (p : Pair) (ps qs : List Pair) → Shuffled (ps ++ p ∷ []) qs
 put-sorted p ps qs h a n = same-by-sums (sorted qs) (insert stamp-of p (sorted ps)) (sorted-in-order qs (put-apart p ps qs h a n))
     (put-in-order p (sorted ps) (sorted-in-order ps a) (holds-sorted (p .stamp) ps ∙ n))
     (λ s. omega (arith, total-sorted (weight s) qs, total-shuffled (weight s) _ _ h, total-push (weight s) ps p, total-sorted (weight s) (p ∷ ps), total-sorted (weight s) ps))
-
-pub put-topped : (p : Pair) (ps qs : List Pair) (u : ℕ) → Shuffled (ps ++ p ∷ []) qs → p .stamp ≤ u → reaching (u + 1) ps ≡ 0 → reaching (u + 1) qs ≡ 0
-put-topped p ps qs u h l z = omega (arith, total-shuffled (reach (u + 1)) _ _ h, total-push (reach (u + 1)) ps p, reach-off (u + 1) p (omega arith))
 
 -- a stamp that no pair has
 pub absent : (s : ℕ) (ps : List Pair) → ((k : ℕ) → k < length ps → getD ps k blank .stamp ≡ s → ⊥) → holds s ps ≡ false
@@ -82,9 +79,6 @@ least-first (q ∷ ps) p l e h a =
 -- a take
 pub taken-apart : (p : Pair) (ps qs : List Pair) → Shuffled ps (p ∷ qs) → Apart ps → Apart qs
 taken-apart p ps qs h a s = omega (arith, total-shuffled (hit s) _ _ h, a s)
-
-pub taken-topped : (p : Pair) (ps qs : List Pair) (u : ℕ) → Shuffled ps (p ∷ qs) → reaching u ps ≡ 0 → reaching u qs ≡ 0
-taken-topped p ps qs u h z = omega (arith, total-shuffled (reach u) _ _ h)
 
 is-rest : (p : Pair) (l m : List Pair) → first l ≡ Some p → in-order l ≡ true → in-order m ≡ true → ((s : ℕ) → total (weight s) l ≡ weight s p + total (weight s) m) → m ≡ rest l
 is-rest p [] m f o r h = absurd (let z : _≡_ {A = ℕ} 0 1 = cc in omega arith)

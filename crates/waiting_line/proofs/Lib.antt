@@ -2,3 +2,4 @@ pub mod Orders
 pub mod Sums
 pub mod Heaps
 pub mod Puts
+pub mod Counts

@@ -5,17 +5,17 @@ use mathlib.Core.Bool.{true, false}
 use mathlib.Core.List.{List, [], _∷_, _++_}
 use Prim.Native.Nat.{ℕ, _+_, _<_, _≤_}
 use native.Mathlib.Omega.{arith}
-use lib.Dec.{ltb, leb, eqb}
+use lib.Dec.{ltb, eqb}
 use lib.ListN.{length}
 use Rattle.std.specs.Slices.{Shuffled}
 use Rattle.std.specs.shelf.Lists.{sumBy}
 use Rattle.std.proofs.shelf.Sums.{sumBy-cons}
 use Rattle.std.proofs.shelf.Sorted.{sumBy-shuffled}
-use Rattle.std.proofs.shelf.Tests.{ltb-true, le-leb, lt-leb, ne-eqb, eq-eqb, and-parts, or-from, cond-both, cond-true, cond-false, cases-order, cases-bool, cases-lt, or-parts, both-ways}
+use Rattle.std.proofs.shelf.Tests.{ltb-true, ne-eqb, eq-eqb, and-parts, or-from, cond-both, cond-true, cond-false, cases-order, cases-bool, or-parts, both-ways}
 use Rattle.tick_machine.specs.Lists.{total, only, insert}
 use Rattle.waiting_line.specs.declared.pair.Pair.{Pair}
 use Rattle.waiting_line.specs.Lines.{stamp-of, holds}
-use Rattle.waiting_line.specs.Kept.{all-above, in-order, sorted, copies, reaching}
+use Rattle.waiting_line.specs.Kept.{all-above, in-order, sorted, copies}
 use Rattle.waiting_line.proofs.Orders.{put-in-order, length-put}
 
 -- the sum over a list is the library's, so a rearrangement keeps it
@@ -125,28 +125,3 @@ holds-sorted s ps = ⊎-elim
     clash s ps e f =
         let not : holds s ps ≡ false = no-copy s ps (omega (arith, not-there s (sorted ps) f, total-sorted (hit s) ps)) in
         both-ways (holds s ps) not e
-
--- a pair that reaches s counts in what reaches s
-abbrev pub reach : ℕ → Pair → ℕ
-reach s p = only (leb s (p .stamp)) 1
-
-pub reach-off : (s : ℕ) (p : Pair) → p .stamp < s → reach s p ≡ 0
-reach-off s p l = cond-false (leb s (p .stamp)) _ _ (lt-leb _ _ l)
-
-reach-at : (s : ℕ) (p : Pair) → s ≤ p .stamp → reach s p ≡ 1
-reach-at s p l = cond-true (leb s (p .stamp)) _ _ (le-leb _ _ l)
-
--- none reaches s, so none reaches more, and s is not there
-pub reaching-more : (s u : ℕ) (ps : List Pair) → s ≤ u → reaching s ps ≡ 0 → reaching u ps ≡ 0
-reaching-more s u [] l h = refl
-reaching-more s u (p ∷ ps) l h = ⊎-elim
-    (λ b. omega (arith, reach-off u p (omega arith), reaching-more s u ps l (omega (arith, h))))
-    (λ b. absurd (omega (arith, h, reach-at s p b))) (cases-lt (p .stamp) s)
-
-pub reaching-fresh : (s : ℕ) (ps : List Pair) → reaching s ps ≡ 0 → holds s ps ≡ false
-reaching-fresh s [] h = refl
-reaching-fresh s (p ∷ ps) h = or-from _ _ (ne-eqb _ _ (λ (e : s ≡ p .stamp). omega (arith, h, reach-at s p (omega arith)))) (reaching-fresh s ps (omega (arith, h)))
-
-pub reaching-empty : (s : ℕ) (ps : List Pair) → length ps ≡ 0 → reaching s ps ≡ 0
-reaching-empty s [] e = refl
-reaching-empty s (p ∷ ps) e = absurd (omega arith)

@@ -1,8 +1,8 @@
 -- How the two lines keep their pairs. Assumes nothing.
 use mathlib.Core.Bool.{Bool, true, _&&_}
 use mathlib.Core.List.{List, [], _∷_}
-use Prim.Native.Nat.{ℕ}
-use lib.Dec.{ltb, leb, eqb}
+use Prim.Native.Nat.{ℕ, _%_}
+use lib.Dec.{ltb, eqb}
 use Rattle.tick_machine.specs.Lists.{total, only, insert}
 use Rattle.waiting_line.specs.declared.pair.Pair.{Pair}
 use Rattle.waiting_line.specs.Lines.{stamp-of}
@@ -34,6 +34,10 @@ sorted (p ∷ ps) = insert stamp-of p (sorted ps)
 abbrev pub copies : ℕ → List Pair → ℕ
 copies s ps = total (λ p. only (eqb s (p .stamp)) 1) ps
 
--- how many pairs have that stamp or a later one
-abbrev pub reaching : ℕ → List Pair → ℕ
-reaching s ps = total (λ p. only (leb s (p .stamp)) 1) ps
+-- the remainder by which a stamp is counted
+abbrev pub remainder : ℕ → ℕ
+remainder s = s % 8191
+
+-- how many pairs have a stamp with that remainder
+abbrev pub sharing : ℕ → List Pair → ℕ
+sharing r ps = total (λ p. only (eqb r (remainder (p .stamp))) 1) ps

@@ -1,14 +1,16 @@
-// A line in a binary heap. A put and a take walk one path of the heap, O(log n). Beside the heap stands a stamp that none in it
-// passes, so that a put of a later stamp need not look for its equal: only an earlier one is looked for, pair by pair.
-// Its memory is reserved when it is made.
+// A line in a binary heap. A put and a take walk one path of the heap, O(log n). Beside the heap stand 8,191 counts: how many
+// pairs have a stamp with each remainder by that prime. A stamp whose count is 0 is not in the line; only another is looked for,
+// pair by pair. Its memory is reserved when it is made.
 ghost use mathlib.Core.Path.{_≡_};
 ghost use mathlib.Core.Bool.{true, false};
-ghost use Prim.Native.Nat.{ℕ, _+_, _<_, _≤_};
-ghost use Rattle.std.specs.Options.{Cases as BySome};
+ghost use Prim.Native.Nat.{ℕ, _<_, _≤_};
+ghost use lib.ListN.{getD};
+ghost use Rattle.std.specs.Results.{Cases};
 ghost use Rattle.std.specs.Of.Vec.{vec-len, vec-cap, vec-items};
 ghost use Rattle.heap_order.specs.Heaps.{HeapedAt};
 ghost use Rattle.waiting_line.specs.Lines.{holds};
-ghost use Rattle.waiting_line.specs.Kept.{blank, by-stamp, sorted, copies, reaching};
+ghost use Rattle.waiting_line.specs.Kept.{blank, by-stamp, sorted, copies, remainder, sharing};
+ghost use Rattle.waiting_line.specs.declared.refusal.MakeRefusal.the-variants.{NoMemory};
 use crate::line::WaitingLine;
 use crate::pair::Pair;
 use crate::refusal::MakeRefusal;
@@ -17,6 +19,9 @@ use heap_order::vec_heap::push;
 use heap_order::vec_heap::take_first;
 use std::alloc::Global;
 use tick_machine::refusal::LineRefusal;
+
+// A prime, so that stamps at even distances spread over the counts.
+const REMAINDERS: usize = 8191;
 
 pub impl TotalOrder for Pair as ByStamp {
     ghost before = { by-stamp };
@@ -30,42 +35,50 @@ pub impl TotalOrder for Pair as ByStamp {
 pub struct HeapLine {
     items: Vec<Pair>,
     limit: u64,
-    // no stamp in the heap passes it
-    highest: u64,
+    // for each remainder, how many pairs have a stamp with it
+    counts: Vec<u16>,
     ghost heaped: { HeapedAt by-stamp blank (vec-items items) },
     ghost apart: { (s : ℕ) → copies s (vec-items items) ≤ 1 },
-    ghost topped: { reaching (highest + 1) (vec-items items) ≡ 0 },
+    ghost counted: { (r : ℕ) → getD (vec-items counts) r 0 ≡ sharing r (vec-items items) },
+    ghost wide: { vec-len counts ≡ 8191 },
     ghost reserved: { limit ≤ vec-cap items },
     ghost inside: { vec-len items ≤ limit },
     ghost some: { 1 ≤ limit },
     ghost few: { limit ≤ 1024 },
 }
 
+// The remainder by which a stamp is counted.
+fn place(stamp: u64) -> usize
+    ensures value { λ r. ⌜ r ≡ remainder stamp ⌝ }
+    ensures within { λ r. ⌜ r < 8191 ⌝ }
+{
+    stamp as usize % REMAINDERS
+}
+
+// So many counts, each 0.
+fn zeros(heap: Global, many: usize) -> Result<Vec<u16>, MakeRefusal>
+    ensures { λ r. ⌜ Cases r (λ v. (vec-len v ≡ many) × ((k : ℕ) → getD (vec-items v) k 0 ≡ 0)) (λ e. e ≡ NoMemory) ⌝ }
+{
+    match vec![in heap; 0; many] {
+        Ok(counts) => Ok(counts),
+        Err(_) => Err(MakeRefusal::NoMemory),
+    }
+}
+
 impl HeapLine {
-    // Whether a pair has the stamp, by looking at each.
+    // Whether a pair has the stamp.
     fn has(&self, stamp: u64) -> bool
         ensures { λ r. ⌜ r ≡ holds stamp (vec-items (now (self .entry) .items)) ⌝ }
     {
+        if self.counts[place(stamp)] == 0 {
+            return false;
+        }
         for pair in self.items.iter() {
             if pair.stamp == stamp {
                 return true;
             }
         }
         false
-    }
-
-    // A stamp that neither the one given nor any in the line passes. None if the one given is in the line.
-    fn highest_with(&self, stamp: u64) -> Option<u64>
-        ensures { λ r. ⌜ BySome r (holds stamp (vec-items (now (self .entry) .items)) ≡ true) (λ h. (holds stamp (vec-items (now (self .entry) .items)) ≡ false) × (stamp ≤ h) × (reaching (h + 1) (vec-items (now (self .entry) .items)) ≡ 0)) ⌝ }
-    {
-        if self.items.is_empty() || stamp > self.highest {
-            return Some(stamp);
-        }
-        if self.has(stamp) {
-            None
-        } else {
-            Some(self.highest)
-        }
     }
 }
 
@@ -78,11 +91,12 @@ pub impl WaitingLine for HeapLine as HeapWaits {
         if limit < 1 || limit > 1024 {
             return Err(MakeRefusal::Capacity);
         }
+        let counts = zeros(heap, REMAINDERS)?;
         match Vec::with_capacity(heap, limit as usize) {
             Ok(items) => Ok(HeapLine {
                 items,
                 limit,
-                highest: 0,
+                counts,
             }),
             Err(_) => Err(MakeRefusal::NoMemory),
         }
@@ -98,10 +112,10 @@ pub impl WaitingLine for HeapLine as HeapWaits {
 
     fn put(&mut self, pair: Pair) -> Result<(), LineRefusal> {
         self.room()?;
-        let Some(highest) = self.highest_with(pair.stamp) else {
+        if self.has(pair.stamp) {
             return Err(LineRefusal::Twice);
-        };
-        self.highest = highest;
+        }
+        self.counts[place(pair.stamp)] += 1;
         push(&mut self.items, pair);
         Ok(())
     }
@@ -117,7 +131,9 @@ pub impl WaitingLine for HeapLine as HeapWaits {
         if self.items.is_empty() {
             return None;
         }
-        Some(take_first(&mut self.items))
+        let pair = take_first(&mut self.items);
+        self.counts[place(pair.stamp)] -= 1;
+        Some(pair)
     }
 
     fn size(&self) -> u64 {

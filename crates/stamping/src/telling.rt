@@ -142,9 +142,9 @@ fn tell_pair(rt: &LibcRuntime, name: &str, taken: Option<Pair>) -> io::Result<()
         Some(pair) => {
             let packet = pair.packet;
             let stamp = pair.stamp;
-            print!(rt, "  {name}: packet {packet} with stamp {stamp}")
+            print!(rt, "  {name}: packet {packet} with stamp {stamp};")
         }
-        None => print!(rt, "  {name}: none"),
+        None => print!(rt, "  {name}: none;"),
     }
 }
 

@@ -1,14 +1,14 @@
 -- The sums over the busy sessions: who stands in the heap, and what a change does to it. Assumes nothing.
 use mathlib.Core.Path.{_≡_, refl, sym, ap, subst, _∙_}
 use mathlib.Core.Logic.{⊎-elim}
-use mathlib.Core.Bool.{Bool, true, false, cond, _&&_}
+use mathlib.Core.Bool.{Bool, true, false, _&&_}
 use mathlib.Core.List.{List, [], _∷_}
-use Prim.Native.Nat.{ℕ, zero, suc, _+_, _-_, _^_, _<_, _≤_}
+use Prim.Native.Nat.{ℕ, zero, suc, _+_, _-_, _<_, _≤_}
 use native.Mathlib.Omega.{arith}
 use lib.Dec.{ltb, eqb}
 use lib.ListN.{length, getD, set, replicate}
-use Rattle.std.proofs.shelf.Lists.{getD-default, getD-take, length-take-le}
-use Rattle.std.proofs.shelf.Tests.{lt-ltb, le-ltb, ltb-true, ltb-false, eqb-true, eq-eqb, ne-eqb, and-parts, and-from, cases-lt, cases-bool}
+use Rattle.std.proofs.shelf.Lists.{getD-take, length-take-le}
+use Rattle.std.proofs.shelf.Tests.{lt-ltb, le-ltb, eqb-true, eq-eqb, ne-eqb, and-parts, and-from, cases-lt, cases-bool}
 use Rattle.tick_machine.specs.Lists.{total, only}
 use Rattle.tick_machine.specs.Slots.{owner}
 use Rattle.tick_machine.proofs.Lists.{only-yes, only-no}

@@ -1,11 +1,9 @@
 -- The heap of busy sessions after one change: where it may fail, and what its elements are. Assumes nothing.
 use mathlib.Core.Path.{_≡_, refl, sym, ap, subst, _∙_}
 use mathlib.Core.Logic.{⊎-elim}
-use mathlib.Core.Bool.{Bool, true, false}
 use mathlib.Core.List.{List, [], _∷_, _++_}
-use Prim.Native.Nat.{ℕ, zero, suc, _+_, _-_, _*_, _/_, _<_, _≤_}
+use Prim.Native.Nat.{ℕ, zero, suc, _+_, _-_, _<_, _≤_}
 use native.Mathlib.Omega.{arith}
-use lib.Dec.{ltb}
 use lib.ListN.{length, getD, set, take, drop, length-set, length-append, length-drop}
 use lib.Seq.{getD-set-same, getD-set-other}
 use Rattle.std.specs.Slices.{Shuffled}
@@ -13,9 +11,9 @@ use Rattle.std.specs.shelf.Lists.{sumBy}
 use Rattle.std.proofs.shelf.Lists.{getD-default, getD-take, length-take-le, take-take}
 use Rattle.std.proofs.shelf.Sums.{sumBy-cons}
 use Rattle.std.proofs.shelf.Sorted.{sumBy-shuffled}
-use Rattle.std.proofs.shelf.Tests.{ltb-true, ltb-false, le-ltb, cases-eq}
+use Rattle.std.proofs.shelf.Tests.{ltb-false, le-ltb, cases-eq}
 use Rattle.tick_machine.specs.Lists.{total}
-use Rattle.heap_order.specs.Heaps.{parent, Heaped, Loose, Heavy}
+use Rattle.heap_order.specs.Heaps.{parent, Heaped, Heavy}
 use Rattle.heap_order.proofs.Changes.{refilled}
 use Rattle.slot_clock.proofs.Holding.{take-set}
 use Rattle.jump_clock.specs.declared.dry.Dry.{Dry}

@@ -1,9 +1,9 @@
 -- A jump: up to the slot in which the first session runs dry, the owed slots are those of the busy sessions. Assumes nothing.
-use mathlib.Core.Path.{_≡_, refl, sym, ap, subst, _∙_}
-use mathlib.Core.List.{List, [], _∷_}
-use mathlib.Core.Bool.{Bool, true, false}
+use mathlib.Core.Path.{_≡_, sym, ap, subst, _∙_}
+use mathlib.Core.List.{List}
+use mathlib.Core.Bool.{Bool, true}
 use mathlib.Core.Logic.{⊎-elim}
-use Prim.Native.Nat.{ℕ, zero, suc, _+_, _-_, _*_, _/_, _%_, _^_, _≤_, _<_}
+use Prim.Native.Nat.{ℕ, suc, _+_, _-_, _*_, _%_, _^_, _≤_, _<_}
 use native.Mathlib.Omega.{arith}
 use native.Mathlib.Nat.{mul-le-mul, mod-lt, mod-eq-of-lt}
 use lib.Dec.{ltb, eqb}
@@ -13,7 +13,7 @@ use Rattle.tick_machine.specs.Lists.{count, final, All}
 use Rattle.tick_machine.specs.Slots.{round-length, holder, owner, own-slots}
 use Rattle.tick_machine.proofs.Windows.{owner-there, weight-some, first-round}
 use Rattle.slot_clock.specs.Layout.{marked, counted}
-use Rattle.slot_clock.specs.Walk.{below, due, ticks-cursor, Tops}
+use Rattle.slot_clock.specs.Walk.{below, due, ticks-cursor}
 use Rattle.slot_clock.proofs.Counts.{count-rises, count-pass, count-above, count-agree, count-from, count-below}
 use Rattle.slot_clock.proofs.Masks.{alone-counts}
 use Rattle.slot_clock.proofs.Reaches.{stamp-one}

@@ -1,10 +1,10 @@
 -- What the jumping clock holds, as its calls need it. Assumes nothing.
-use mathlib.Core.Path.{_≡_, refl, sym, ap, subst, _∙_}
+use mathlib.Core.Path.{_≡_, sym, ap, _∙_}
 use mathlib.Core.List.{List}
-use Prim.Native.Nat.{ℕ, _+_, _<_, _≤_}
+use Prim.Native.Nat.{ℕ, _<_}
 use native.Mathlib.Omega.{arith}
 use lib.Dec.{ltb}
-use lib.ListN.{length, getD}
+use lib.ListN.{getD}
 use Rattle.tick_machine.specs.Lists.{total, only}
 use Rattle.slot_clock.specs.declared.held.Held.{Held}
 use Rattle.slot_clock.specs.Held.{weights-of, next-of, held-state}
@@ -13,7 +13,7 @@ use Rattle.slot_clock.proofs.Holding.{sessions-are, nexts-are, sound}
 use Rattle.jump_clock.specs.declared.dry.Busy.{Busy}
 use Rattle.jump_clock.specs.Dries.{blank, items, Ordered, Holds, busy-sessions, halfway}
 use Rattle.jump_clock.specs.Jumps.{Ahead}
-use Rattle.jump_clock.proofs.Busies.{First, first-place, items-are, busy-count}
+use Rattle.jump_clock.proofs.Busies.{first-place, items-are, busy-count}
 
 -- the first in the heap is ahead
 pub ahead : (h : Held) (b : Busy) (v : ℕ) → Holds (items b) v (next-of h) → Ordered (items b) → 0 < b .count

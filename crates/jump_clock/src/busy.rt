@@ -1,9 +1,8 @@
 // The heap of busy sessions, in an array.
 ghost use mathlib.Core.Path.{_≡_};
-ghost use mathlib.Core.Bool.{Bool, true, false};
-ghost use mathlib.Core.List.{List, []};
+ghost use mathlib.Core.List.{[]};
 ghost use Prim.Native.Nat.{ℕ, _+_, _<_, _≤_};
-ghost use lib.ListN.{length, getD};
+ghost use lib.ListN.{getD};
 ghost use Rattle.std.specs.Slices.{Shuffled};
 ghost use Rattle.std.specs.Options.{Cases as BySome};
 ghost use Rattle.heap_order.specs.Heaps.{Loose, Heavy};

@@ -1,11 +1,10 @@
 // A jump, and a stamp in closed form.
 ghost use mathlib.Core.Path.{_≡_};
-ghost use mathlib.Core.Bool.{Bool, true};
-ghost use Prim.Native.Nat.{ℕ, _+_, _-_, _*_, _^_, _<_, _≤_};
+ghost use Prim.Native.Nat.{ℕ, _+_, _-_, _<_, _≤_};
 ghost use lib.Dec.{ltb};
 ghost use lib.ListN.{length, getD};
 ghost use Rattle.tick_machine.specs.Lists.{final};
-ghost use Rattle.tick_machine.specs.Slots.{round-length, own-slots};
+ghost use Rattle.tick_machine.specs.Slots.{own-slots};
 ghost use Rattle.slot_clock.specs.Layout.{marked};
 ghost use Rattle.slot_clock.specs.Walk.{ticks-cursor};
 ghost use Rattle.slot_clock.specs.Held.{weights-of, Room};

@@ -1,12 +1,12 @@
 -- Blocks of positions: the code's loops and closed forms give owners and counts. Nothing else here looks into the blocks. Assumes nothing.
 use mathlib.Core.Path.{_≡_, refl, sym, ap, subst, _∙_}
 use mathlib.Core.List.{List, [], _∷_}
-use mathlib.Core.Bool.{Bool, true, false, cond}
+use mathlib.Core.Bool.{Bool, true, false}
 use mathlib.Core.Logic.{⊎-elim}
 use Prim.Native.Nat.{ℕ, zero, suc, _+_, _-_, _*_, _/_, _%_, _≤_, _<_, min}
 use native.Mathlib.Omega.{arith}
 use native.Mathlib.Numerals.{add-one}
-use native.Mathlib.Nat.{zero-add, suc-add, add-zero, add-mod-right, mod-eq-of-lt, div-add-mod, mod-lt, mul-add-mod-self-left}
+use native.Mathlib.Nat.{zero-add, suc-add, add-mod-right, mod-eq-of-lt, div-add-mod, mod-lt, mul-add-mod-self-left}
 use lib.Dec.{ltb}
 use lib.ListN.{length, getD, drop}
 use lib.Seq.{drop-cons}
@@ -17,8 +17,8 @@ use Rattle.tick_machine.specs.Slots.{round-length, holder, owner}
 use Rattle.tick_machine.proofs.Lists.{only-yes, only-no, only-at-most}
 use Rattle.tick_machine.proofs.Counts.{count-same, count-split}
 use Rattle.tick_machine.proofs.Ownership.{holder-front, holder-back}
-use Rattle.slot_clock.specs.Layout.{marked, counted, whole, part, place}
-use Rattle.slot_clock.proofs.Counts.{count-flat, count-most, count-rises, count-from, count-below}
+use Rattle.slot_clock.specs.Layout.{whole, part, place}
+use Rattle.slot_clock.proofs.Counts.{count-flat, count-most, count-below}
 
 pub times-least : (m w : ℕ) → 0 < w → m * 1 ≤ m * w
 times-least m (suc w) l = omega arith

@@ -1,12 +1,11 @@
 -- More on how many numbers below a bound pass a test, and on the lowest that passes. Assumes nothing.
-use mathlib.Core.Path.{_≡_, refl, sym, ap, subst, _∙_}
+use mathlib.Core.Path.{_≡_, refl, ap}
 use mathlib.Core.Bool.{Bool, true, false}
 use mathlib.Core.Logic.{⊎-elim}
-use Prim.Native.Nat.{ℕ, zero, suc, _+_, _-_, _*_, _≤_, _<_}
+use Prim.Native.Nat.{ℕ, zero, suc, _+_, _-_, _≤_, _<_}
 use native.Mathlib.Omega.{arith}
 use Rattle.std.proofs.shelf.Tests.{cases-lt, cases-bool}
 use Rattle.tick_machine.specs.Lists.{only, count}
-use Rattle.tick_machine.specs.Slots.{lowest}
 use Rattle.tick_machine.proofs.Lists.{only-yes, only-no, only-at-most}
 use Rattle.tick_machine.proofs.Counts.{count-same, count-all, count-none, count-split, count-mono}
 use Rattle.tick_machine.proofs.Slots.{Found}

@@ -1,24 +1,22 @@
 -- What a slot clock's calls answer, by what it holds. Assumes nothing.
 use mathlib.Core.Path.{_≡_, refl, sym, ap, subst, _∙_}
 use mathlib.Core.List.{List, [], _∷_}
-use mathlib.Core.Bool.{Bool, true, false, cond, _&&_}
+use mathlib.Core.Bool.{true, false, _&&_}
 use mathlib.Core.Logic.{_⊎_, ⊎-elim}
-use Prim.Native.Nat.{ℕ, zero, suc, _+_, _-_, _*_, _^_, _≤_, _<_, max}
+use Prim.Native.Nat.{ℕ, zero, suc, _+_, _-_, _*_, _^_, _≤_, _<_}
 use native.Mathlib.Omega.{arith}
-use lib.Dec.{ltb, leb, eqb}
-use lib.ListN.{length, getD, set, take, replicate, length-replicate}
+use lib.Dec.{ltb, leb}
+use lib.ListN.{length, getD, set, take}
 use Rattle.std.proofs.shelf.Lists.{length-take-le}
 use Rattle.std.proofs.shelf.Tests.{cond-true, cond-false, lt-ltb, le-ltb, le-leb, lt-leb, and-from, and-left, and-right}
-use Rattle.std.specs.declared.result.Result.{Result}
 use Rattle.std.specs.declared.result.Result.the-variants.{Ok, Err}
-use Rattle.slot_clock.specs.declared.refusal.ClockRefusal.{ClockRefusal}
-use Rattle.slot_clock.specs.declared.refusal.ClockRefusal.the-variants.{Sessions, Weights, UnknownSession, Size, TooMuchOwed, TicksPastEnd}
-use Rattle.tick_machine.specs.Lists.{total, count, final}
-use Rattle.tick_machine.specs.Slots.{round-length, owner, own-slots}
-use Rattle.tick_machine.specs.Round.{Round, add, stamp, owed-to, round-ticks}
-use Rattle.tick_machine.specs.Owed.{owed-slots, shown-round}
-use Rattle.slot_clock.specs.State.{SlotState, owed-each, state-of, round-of}
-use Rattle.slot_clock.specs.Calls.{owed-in-all, add-answer, add-left, add-after, may-run, run-answer, run-after, owed-answer}
+use Rattle.slot_clock.specs.declared.refusal.ClockRefusal.the-variants.{UnknownSession, Size, TooMuchOwed, TicksPastEnd}
+use Rattle.tick_machine.specs.Lists.{final}
+use Rattle.tick_machine.specs.Slots.{own-slots}
+use Rattle.tick_machine.specs.Round.{stamp}
+use Rattle.tick_machine.specs.Owed.{shown-round}
+use Rattle.slot_clock.specs.State.{state-of, round-of}
+use Rattle.slot_clock.specs.Calls.{owed-in-all, add-answer, add-left, add-after, run-answer, run-after, owed-answer}
 use Rattle.slot_clock.specs.Walk.{below, ticks-cursor}
 use Rattle.slot_clock.specs.declared.held.Held.{Held}
 use Rattle.slot_clock.specs.Held.{weights-of, next-of, held-state, Room}

@@ -1,27 +1,24 @@
 -- The weights, one by one, and what a clock starts with. Assumes nothing.
 use mathlib.Core.Path.{_≡_, refl, sym, ap, subst, _∙_}
 use mathlib.Core.List.{List, [], _∷_}
-use mathlib.Core.Bool.{Bool, true, false, cond, _&&_}
+use mathlib.Core.Bool.{true, false, cond, _&&_}
 use mathlib.Core.Logic.{_⊎_, ⊎-elim}
-use Prim.Native.Nat.{ℕ, zero, suc, _+_, _-_, _*_, _≤_, _<_}
+use Prim.Native.Nat.{ℕ, zero, suc, _+_, _-_, _≤_, _<_}
 use native.Mathlib.Omega.{arith}
 use native.Mathlib.Numerals.{add-one}
-use lib.Dec.{ltb, leb, eqb}
-use lib.ListN.{length, getD, drop, replicate, length-replicate}
+use lib.Dec.{ltb, leb}
+use lib.ListN.{length, getD, drop, replicate}
 use lib.Seq.{drop-cons}
 use Rattle.std.proofs.shelf.Lists.{drop-all}
 use Rattle.std.proofs.shelf.Tests.{cond-true, cond-false, lt-ltb, le-ltb, le-leb, lt-leb, and-from, and-left, and-right, and-parts, ltb-true, leb-true, cases-bool}
 use Rattle.std.specs.declared.option.Option.{Option}
 use Rattle.std.specs.declared.option.Option.the-variants.{Some, None}
-use Rattle.std.specs.declared.result.Result.{Result}
-use Rattle.std.specs.declared.result.Result.the-variants.{Ok, Err}
-use Rattle.slot_clock.specs.declared.refusal.ClockRefusal.{ClockRefusal}
-use Rattle.slot_clock.specs.declared.refusal.ClockRefusal.the-variants.{Sessions, Weights}
+use Rattle.std.specs.declared.result.Result.the-variants.{Ok}
 use Rattle.tick_machine.specs.Slots.{round-length}
 use Rattle.tick_machine.specs.Round.{Round, fresh-round}
 use Rattle.tick_machine.specs.Owed.{owed-slots, shown-round}
 use Rattle.tick_machine.proofs.OwedSlots.{shown-fresh}
-use Rattle.slot_clock.specs.State.{SlotState, state-of}
+use Rattle.slot_clock.specs.State.{state-of}
 use Rattle.slot_clock.specs.Calls.{no-zero, made-answer}
 use Rattle.slot_clock.specs.Walk.{Tops}
 use Rattle.slot_clock.proofs.Blocks.{round-more}
@@ -70,16 +67,6 @@ fit ws r e =
     absurd (omega arith))
     (cases-bool (no-zero ws && leb (round-length ws) 4096))
 
-unfit : (ws : List ℕ) → None ≡ Summed ws → (no-zero ws && leb (round-length ws) 4096) ≡ false
-unfit ws e =
-    ⊎-elim
-    (λ (t : (no-zero ws && leb (round-length ws) 4096) ≡ true).
-    let s : None ≡ Some (round-length ws) = e ∙ cond-true (no-zero ws && leb (round-length ws) 4096) (Some (round-length ws)) None t in
-    let z : _≡_ {A = ℕ} 0 1 = cc in
-    absurd (omega arith))
-    (λ f. f)
-    (cases-bool (no-zero ws && leb (round-length ws) 4096))
-
 heavy-round : (ws : List ℕ) → no-zero ws ≡ true → 0 < length ws → 0 < round-length ws
 heavy-round [] e l = absurd (omega arith)
 heavy-round (w ∷ ws) e l = omega (arith, ltb-true 0 w (and-parts (ltb 0 w) (no-zero ws) e .0))
@@ -116,16 +103,6 @@ starts ws₀ ws next r e f l h =
 module _ (ws : List ℕ) where
   few-sessions : 0 < length ws → length ws ≤ 64 → (ltb 0 (length ws) && leb (length ws) 64) ≡ true
   few-sessions a b = and-from (ltb 0 (length ws)) (leb (length ws) 64) (lt-ltb 0 (length ws) a) (le-leb (length ws) 64 b)
-
-  pub no-sessions : (length ws ≡ 0) ⊎ (64 < length ws) → Err Sessions ≡ made-answer ws
-  no-sessions s =
-      let f : (ltb 0 (length ws) && leb (length ws) 64) ≡ false
-      = ⊎-elim (λ (z : length ws ≡ 0). and-left (ltb 0 (length ws)) _ (le-ltb 0 (length ws) (omega arith))) (λ (z : 64 < length ws). and-right (ltb 0 (length ws)) _ (lt-leb (length ws) 64 z)) s in
-      sym (cond-false (ltb 0 (length ws) && leb (length ws) 64) _ _ f)
-
-  pub no-weights : 0 < length ws → length ws ≤ 64 → None ≡ Summed ws → Err Weights ≡ made-answer ws
-  no-weights a b e =
-      sym (cond-true (ltb 0 (length ws) && leb (length ws) 64) _ _ (few-sessions a b) ∙ cond-false (no-zero ws && leb (round-length ws) 4096) _ _ (unfit ws e))
 
   pub made : (ws′ next : List ℕ) → 0 < length ws → length ws ≤ 64 → (r : ℕ) → Some r ≡ Summed ws → ws′ ≡ ws → next ≡ replicate (length ws) 0
       → Ok (state-of ws′ 0 (shown-round ws′ 0 next)) ≡ made-answer ws

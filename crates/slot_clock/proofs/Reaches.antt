@@ -1,20 +1,20 @@
 -- How far V, a session's next and a stamp may go. Assumes nothing.
-use mathlib.Core.Path.{_≡_, refl, sym, ap, subst, _∙_}
-use mathlib.Core.List.{List, [], _∷_}
+use mathlib.Core.Path.{_≡_, refl, ap}
+use mathlib.Core.List.{List}
 use mathlib.Core.Bool.{Bool, true, false, cond}
 use mathlib.Core.Logic.{⊎-elim}
-use Prim.Native.Nat.{ℕ, zero, suc, _+_, _-_, _*_, _≤_, _<_, max}
+use Prim.Native.Nat.{ℕ, zero, suc, _+_, _-_, _*_, _≤_, _<_}
 use native.Mathlib.Omega.{arith}
-use lib.Dec.{ltb, eqb}
-use lib.ListN.{length, getD, set}
+use lib.Dec.{eqb}
+use lib.ListN.{length, getD}
 use Rattle.std.proofs.shelf.Tests.{lt-ltb, ltb-true, cases-lt, cases-bool, cond-both, eq-eqb, eqb-true}
 use Rattle.tick_machine.specs.Lists.{count, final, All}
 use Rattle.tick_machine.specs.Slots.{round-length, owner, lowest, slots, own-slots}
 use Rattle.tick_machine.specs.Owed.{greatest}
-use Rattle.tick_machine.proofs.Slots.{Found, lowest-found}
+use Rattle.tick_machine.proofs.Slots.{lowest-found}
 use Rattle.tick_machine.proofs.Windows.{owner-there, weight-some, rounds, reach}
 use Rattle.slot_clock.specs.Walk.{below, due, tick-cursor, ticks-cursor, Tops}
-use Rattle.slot_clock.proofs.Counts.{count-rises, count-pass, count-above, count-one, count-below, found-pass, found-from, found-least, found-count}
+use Rattle.slot_clock.proofs.Counts.{count-rises, count-pass, count-one, count-below, found-pass, found-from, found-least, found-count}
 use Rattle.slot_clock.proofs.Blocks.{times-least}
 use Rattle.slot_clock.proofs.Walks.{finds, tick-found}
 

@@ -1,16 +1,16 @@
 -- V and the nexts stand for a round server, and the bytes owed are counts of slots. Assumes nothing.
-use mathlib.Core.Path.{_≡_, refl, sym, ap, subst, _∙_}
+use mathlib.Core.Path.{_≡_, refl, sym, ap, _∙_}
 use mathlib.Core.List.{List, [], _∷_, map}
 use mathlib.Core.Bool.{Bool, true, false, cond}
 use mathlib.Core.Logic.{⊎-elim}
 use Prim.Native.Nat.{ℕ, zero, suc, _+_, _-_, _≤_, _<_, max, min}
 use native.Mathlib.Omega.{arith}
 use lib.Dec.{ltb, eqb}
-use lib.ListN.{length, getD, set}
+use lib.ListN.{length, getD}
 use Rattle.std.proofs.shelf.Tests.{cases-bool, cases-lt, cases-eq, cond-true, cond-false, lt-ltb, le-ltb, eqb-true, eq-eqb, ne-eqb}
-use Rattle.tick_machine.specs.Lists.{total, only, count, insert-all, All, none, more}
+use Rattle.tick_machine.specs.Lists.{total, only, count, insert-all, All}
 use Rattle.tick_machine.specs.Slots.{round-length, owner, lowest}
-use Rattle.tick_machine.specs.Round.{Round, serve, round-tick, round-ticks, owed-to, granted, grant, add, stamp}
+use Rattle.tick_machine.specs.Round.{Round, serve, round-tick, round-ticks, owed-to, granted, add}
 use Rattle.tick_machine.specs.Owed.{from, kept, greatest, owed-slots, shown-round}
 use Rattle.tick_machine.proofs.Lists.{only-yes, only-no, only-at-most, total-insert-all}
 use Rattle.tick_machine.proofs.Slots.{fresh}

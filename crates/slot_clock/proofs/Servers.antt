@@ -1,22 +1,22 @@
 -- A slot clock's state is a round server. Assumes nothing.
-use mathlib.Core.Path.{_≡_, refl, sym, ap, subst, _∙_}
+use mathlib.Core.Path.{_≡_, refl, sym, ap, _∙_}
 use mathlib.Core.List.{List}
 use mathlib.Core.Bool.{Bool, true, false, cond, _&&_}
 use Prim.Native.Nat.{ℕ, zero, suc, _+_, _≤_}
 use native.Mathlib.Omega.{arith}
 use lib.Dec.{ltb, leb}
-use lib.ListN.{length, replicate, length-replicate, length-set}
+use lib.ListN.{length, length-replicate, length-set}
 use Rattle.std.proofs.shelf.Tests.{cond-true}
 use Rattle.std.specs.declared.result.Result.{Result}
 use Rattle.std.specs.declared.result.Result.the-variants.{Ok, Err}
 use Rattle.tick_machine.specs.Lists.{All, final}
-use Rattle.tick_machine.specs.Round.{Round, granted, stamp, add, round-tick, round-ticks}
+use Rattle.tick_machine.specs.Round.{Round, granted, stamp, add, round-ticks}
 use Rattle.tick_machine.specs.Owed.{shown-round}
 use Rattle.tick_machine.proofs.OwedSlots.{shown-fresh, tick-shown, add-shown}
 use Rattle.tick_machine.proofs.Serving.{serve-next}
 use Rattle.slot_clock.specs.declared.refusal.ClockRefusal.{ClockRefusal}
-use Rattle.slot_clock.specs.State.{SlotState, state-of, round-of}
-use Rattle.slot_clock.specs.Calls.{owed-in-all, add-answer, add-left, may-run}
+use Rattle.slot_clock.specs.State.{state-of, round-of}
+use Rattle.slot_clock.specs.Calls.{owed-in-all, add-left, may-run}
 use Rattle.slot_clock.specs.Theorems.{Led, start, ticks, packet, State-tells-the-round, Adding-is-accepting, Running-is-ticking}
 
 -- a round server that V and the nexts tell

@@ -1,17 +1,17 @@
 -- What the numbers of a slot clock keep to, and that adding and running keep it. Assumes nothing.
 use mathlib.Core.Path.{_≡_, refl, sym, ap, subst, _∙_}
 use mathlib.Core.List.{List, [], _∷_}
-use mathlib.Core.Bool.{Bool, true, false, cond, _&&_}
+use mathlib.Core.Bool.{true}
 use mathlib.Core.Logic.{⊎-elim}
-use Prim.Native.Nat.{ℕ, zero, suc, _+_, _-_, _*_, _^_, _≤_, _<_, max}
+use Prim.Native.Nat.{ℕ, _+_, _-_, _*_, _^_, _≤_, _<_, max}
 use native.Mathlib.Omega.{arith}
 use native.Mathlib.Nat.{mul-le-mul}
-use lib.Dec.{ltb, eqb}
-use lib.ListN.{length, getD, set, take, length-set}
+use lib.Dec.{ltb}
+use lib.ListN.{length, getD, set, length-set}
 use lib.Seq.{getD-set-same, getD-set-other}
 use Rattle.std.proofs.shelf.Tests.{cases-lt, cases-eq, ltb-true, and-parts}
 use Rattle.std.proofs.shelf.Lists.{getD-past}
-use Rattle.tick_machine.specs.Lists.{count, final, All, none, more}
+use Rattle.tick_machine.specs.Lists.{final, All, none, more}
 use Rattle.tick_machine.specs.Slots.{round-length, owner, own-slots}
 use Rattle.tick_machine.specs.Round.{Round, add, stamp}
 use Rattle.tick_machine.specs.Owed.{owed-slots, shown-round}

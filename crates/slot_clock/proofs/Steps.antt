@@ -1,22 +1,22 @@
 -- Slot by slot: what the walks keep. Assumes nothing.
-use mathlib.Core.Path.{_≡_, refl, sym, ap, subst, _∙_}
+use mathlib.Core.Path.{_≡_, refl, sym, ap, _∙_}
 use mathlib.Core.List.{List, [], _∷_}
 use mathlib.Core.Bool.{Bool, true, false, cond}
 use mathlib.Core.Logic.{⊎-elim}
-use Prim.Native.Nat.{ℕ, zero, suc, _+_, _-_, _*_, _≤_, _<_, min}
+use Prim.Native.Nat.{ℕ, zero, suc, _+_, _-_, _≤_, _<_, min}
 use native.Mathlib.Omega.{arith}
-use lib.Dec.{ltb, eqb}
-use lib.ListN.{length, getD}
-use Rattle.std.proofs.shelf.Tests.{cases-lt, cases-bool, cond-true, cond-false, eq-eqb, ne-eqb}
-use Rattle.tick_machine.specs.Lists.{only, count, final, All}
-use Rattle.tick_machine.specs.Slots.{round-length, owner, own-slots}
+use lib.Dec.{eqb}
+use lib.ListN.{length}
+use Rattle.std.proofs.shelf.Tests.{cases-lt, cond-true, cond-false, eq-eqb, ne-eqb}
+use Rattle.tick_machine.specs.Lists.{final, All}
+use Rattle.tick_machine.specs.Slots.{owner, own-slots}
 use Rattle.tick_machine.specs.Round.{Round, serve, round-ticks}
 use Rattle.tick_machine.specs.Owed.{from, kept, greatest, owed-slots, shown-round}
-use Rattle.slot_clock.specs.Walk.{below, due, ticks-cursor, Tops}
+use Rattle.slot_clock.specs.Walk.{below, due, ticks-cursor}
 use Rattle.slot_clock.proofs.Counts.{count-pass, count-fail, count-from, count-below}
 use Rattle.slot_clock.proofs.Walks.{ticks-more}
 use Rattle.slot_clock.proofs.Rounds.{ticks-shown, ticks-length, owed-falls}
-use Rattle.slot_clock.proofs.Reaches.{Stamped, stamped, stamp-one}
+use Rattle.slot_clock.proofs.Reaches.{Stamped, stamped}
 
 -- a server that owes nothing stands still
 serve-none : (os : List ℕ) (r : Round) → length os ≡ 0 → serve os r .cursor ≡ r .cursor
@@ -53,9 +53,6 @@ owed-ahead ws next v h =
     (cases-lt v (greatest next))
 
 module _ (ws next : List ℕ) (v : ℕ) (ahead : v < greatest next) where
-  rest : List ℕ
-  rest = kept (due ws next) (from (suc v) (greatest next - suc v))
-
   first-slot : owed-slots ws v next ≡ cond (due ws next v) (v ∷ owed-slots ws (suc v) next) (owed-slots ws (suc v) next)
   first-slot = let e : greatest next - v ≡ suc (greatest next - suc v) = omega arith in ap (λ n. kept (due ws next) (from v n)) e
 

@@ -1,7 +1,7 @@
 -- Ranks of slots, where each session owns a block of positions. A mask says of each session whether its slots count. Assumes nothing.
 use mathlib.Core.List.{List, [], _∷_}
 use mathlib.Core.Bool.{Bool, false, cond}
-use Prim.Native.Nat.{ℕ, zero, suc, _+_, _-_, min}
+use Prim.Native.Nat.{ℕ, suc, _+_, _-_, min}
 use lib.Dec.{ltb}
 use lib.ListN.{getD}
 use Rattle.tick_machine.specs.Lists.{only}

@@ -6,7 +6,7 @@ use lib.ListN.{length}
 use Rattle.std.specs.declared.result.Result.the-variants.{Ok}
 use Rattle.tick_machine.specs.Lists.{All}
 use Rattle.tick_machine.specs.Round.{Round, fresh-round, add, stamp, round-ticks}
-use Rattle.slot_clock.specs.State.{SlotState, state-of, round-of}
+use Rattle.slot_clock.specs.State.{state-of, round-of}
 use Rattle.slot_clock.specs.Calls.{add-answer, add-after, run-answer, run-after}
 
 -- the round servers that accepted packets and ticks lead to

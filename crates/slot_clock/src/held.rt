@@ -1,8 +1,8 @@
 // What every slot clock holds. The first places of the arrays, as many as there are sessions, are in use.
 ghost use mathlib.Core.Path.{_≡_};
-ghost use mathlib.Core.Bool.{Bool, true};
-ghost use Prim.Native.Nat.{ℕ, _-_, _*_, _<_, _≤_};
-ghost use lib.ListN.{length, getD, take};
+ghost use mathlib.Core.Bool.{true};
+ghost use Prim.Native.Nat.{_-_, _*_, _<_, _≤_};
+ghost use lib.ListN.{length, take};
 ghost use Rattle.tick_machine.specs.Slots.{round-length};
 ghost use Rattle.tick_machine.specs.Owed.{owed-slots};
 ghost use Rattle.slot_clock.specs.Calls.{no-zero};

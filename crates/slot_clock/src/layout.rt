@@ -1,9 +1,9 @@
 // Where the sessions have their positions: each its own block of the round, in the order of their numbers.
 // Whatever depends on these blocks stands in this file; its contracts speak of owners and of counts alone.
 ghost use mathlib.Core.Path.{_≡_};
-ghost use mathlib.Core.Bool.{Bool, true, false};
-ghost use Prim.Native.Nat.{ℕ, _+_, _-_, _*_, _%_, _^_, _<_, _≤_};
-ghost use lib.ListN.{length, getD};
+ghost use mathlib.Core.Bool.{true};
+ghost use Prim.Native.Nat.{_+_, _-_, _*_, _%_, _^_, _<_, _≤_};
+ghost use lib.ListN.{length};
 ghost use Rattle.tick_machine.specs.Lists.{count};
 ghost use Rattle.tick_machine.specs.Slots.{round-length, holder, owner};
 ghost use Rattle.slot_clock.specs.Layout.{marked, counted, whole as weight-of, part, place};

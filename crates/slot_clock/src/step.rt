@@ -1,8 +1,8 @@
 // A slot clock that goes slot by slot. It looks at one slot after another and asks whose it is; it stops once as many
 // were served as ticks passed or as bytes were owed, so that it does not go on when nothing is owed.
 ghost use mathlib.Core.Path.{_≡_};
-ghost use mathlib.Core.Bool.{Bool, true};
-ghost use Prim.Native.Nat.{ℕ, _+_, _*_, _^_, _<_, _≤_};
+ghost use mathlib.Core.Bool.{true};
+ghost use Prim.Native.Nat.{_+_, _*_, _^_, _<_, _≤_};
 ghost use lib.ListN.{length};
 ghost use Rattle.tick_machine.specs.Lists.{final};
 ghost use Rattle.tick_machine.specs.Slots.{round-length, own-slots};

@@ -1,7 +1,7 @@
-use mathlib.Core.Path.{_≡_, refl, sym, ap, subst, _∙_}
+use mathlib.Core.Path.{_≡_, sym, subst, _∙_}
 use mathlib.Core.List.{List}
 use mathlib.Core.Logic.{⊎-elim}
-use Prim.Native.Nat.{ℕ, _+_, _<_, _≤_}
+use Prim.Native.Nat.{ℕ, _<_, _≤_}
 use native.Mathlib.Omega.{arith}
 use lib.ListN.{length, getD}
 use Rattle.std.proofs.shelf.Lists.{getD-take}
@@ -11,7 +11,7 @@ use Rattle.slot_clock.specs.Held.{weights-of, next-of}
 use Rattle.slot_clock.proofs.Holding.{nexts-are}
 use Rattle.jump_clock.specs.Dries.{blank, items, Holds, missed}
 use Rattle.jump_clock.specs.Jumps.{Ahead}
-use Rattle.jump_clock.proofs.Busies.{First, first-place, items-are, holds-on, holds-less, missed-all, missed-none}
+use Rattle.jump_clock.proofs.Busies.{first-place, items-are, holds-on, holds-less, missed-all, missed-none}
 use Rattle.jump_clock.proofs.Runs.{ahead}
 use Rattle.jump_clock.proofs.jump.once.Needs as need
 

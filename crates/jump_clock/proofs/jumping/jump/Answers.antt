@@ -1,7 +1,7 @@
-use mathlib.Core.Path.{_≡_, refl, sym, ap, _∙_}
+use mathlib.Core.Path.{_≡_, refl}
 use Prim.Native.Nat.{ℕ, _+_, _-_, _<_, _≤_}
 use native.Mathlib.Omega.{arith}
-use lib.ListN.{length, getD}
+use lib.ListN.{getD}
 use Rattle.tick_machine.specs.Lists.{count}
 use Rattle.slot_clock.specs.Layout.{counted}
 use Rattle.jump_clock.proofs.Leaps.{busy-hit, rises, dry-some, dry-goes, stop-from, stop-below, stop-goes, jump-near}

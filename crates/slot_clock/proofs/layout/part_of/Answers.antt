@@ -1,13 +1,9 @@
-use borrow.Author.Needs.{needs}
-use mathlib.Core.Path.{_≡_, refl, sym, ap, subst, _∙_}
-use mathlib.Core.Bool.{Bool, true, false}
-use Prim.Native.Nat.{ℕ, _+_, _-_, _*_, _/_, _%_, _≤_, _<_, min}
+use mathlib.Core.Path.{ap}
+use Prim.Native.Nat.{_+_, _-_, min}
 use native.Mathlib.Omega.{arith}
-use native.Mathlib.Nat.{mod-lt}
-use lib.ListN.{length, getD, drop}
-use Rattle.tick_machine.specs.Slots.{round-length}
+use lib.ListN.{getD, drop}
 use Rattle.tick_machine.proofs.Lists.{only-yes, only-no}
-use Rattle.slot_clock.specs.Layout.{marked, whole, part, place}
+use Rattle.slot_clock.specs.Layout.{marked, part}
 use Rattle.slot_clock.proofs.Blocks.{part-more, part-most, part-end}
 use Rattle.slot_clock.proofs.layout.part_of.Needs as need
 use Rattle.slot_clock.proofs.layout.part_of.Needs.{then-mask-i, else-mask-i}

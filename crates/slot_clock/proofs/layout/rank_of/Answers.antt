@@ -1,13 +1,6 @@
-use borrow.Author.Needs.{needs}
-use mathlib.Core.Path.{_≡_, refl, sym, ap, subst, _∙_}
-use mathlib.Core.Bool.{Bool, true, false}
-use Prim.Native.Nat.{ℕ, _+_, _-_, _*_, _/_, _%_, _≤_, _<_, min}
+use Prim.Native.Nat.{_-_}
 use native.Mathlib.Omega.{arith}
-use native.Mathlib.Nat.{mod-lt}
-use lib.ListN.{length, getD, drop}
-use Rattle.tick_machine.specs.Slots.{round-length}
-use Rattle.tick_machine.proofs.Lists.{only-yes, only-no}
-use Rattle.slot_clock.specs.Layout.{marked, whole, part, place}
+use Rattle.slot_clock.specs.Layout.{marked, whole}
 use Rattle.slot_clock.proofs.Blocks.{rank-done}
 use Rattle.slot_clock.proofs.layout.rank_of.Needs as need
 

@@ -1,13 +1,8 @@
-use borrow.Author.Needs.{needs}
-use mathlib.Core.Path.{_≡_, refl, sym, ap, subst, _∙_}
-use mathlib.Core.Bool.{Bool, true, false}
-use Prim.Native.Nat.{ℕ, _+_, _-_, _*_, _/_, _%_, _≤_, _<_, min}
+use Prim.Native.Nat.{_-_}
 use native.Mathlib.Omega.{arith}
-use native.Mathlib.Nat.{mod-lt}
-use lib.ListN.{length, getD, drop}
-use Rattle.tick_machine.specs.Slots.{round-length}
+use lib.ListN.{getD}
 use Rattle.tick_machine.proofs.Lists.{only-yes, only-no}
-use Rattle.slot_clock.specs.Layout.{marked, whole, part, place}
+use Rattle.slot_clock.specs.Layout.{marked}
 use Rattle.slot_clock.proofs.Blocks.{whole-more, whole-most, whole-end}
 use Rattle.slot_clock.proofs.layout.weight_of.Needs as need
 use Rattle.slot_clock.proofs.layout.weight_of.Needs.{then-mask-i, else-mask-i}

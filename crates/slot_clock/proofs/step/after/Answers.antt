@@ -1,4 +1,4 @@
-use mathlib.Core.Path.{_≡_, sym, ap, subst, _∙_}
+use mathlib.Core.Path.{sym, ap, subst, _∙_}
 use lib.ListN.{length}
 use Rattle.tick_machine.specs.Slots.{round-length}
 use Rattle.tick_machine.specs.Owed.{owed-slots}

@@ -6,7 +6,6 @@ use lib.ListN.{length}
 use Rattle.tick_machine.specs.Lists.{final}
 use Rattle.tick_machine.specs.Slots.{round-length, own-slots}
 use Rattle.slot_clock.specs.Calls.{no-zero}
-use Rattle.slot_clock.specs.Held.{weights-of}
 use Rattle.slot_clock.proofs.Holding.{sessions-are, held-from}
 use Rattle.slot_clock.proofs.step.stamp_of.Needs as need
 

@@ -1,10 +1,9 @@
-use mathlib.Core.Path.{_≡_, refl, sym, ap, subst, _∙_}
-use Prim.Native.Nat.{ℕ, _+_, _-_, _≤_, _<_}
+use mathlib.Core.Path.{_≡_, sym, ap, _∙_}
+use Prim.Native.Nat.{_+_, _-_}
 use native.Mathlib.Omega.{arith}
-use lib.ListN.{length, getD}
+use lib.ListN.{getD}
 use Rattle.std.proofs.shelf.Tests.{lt-ltb, le-ltb}
 use Rattle.tick_machine.specs.Slots.{owner}
-use Rattle.tick_machine.specs.Owed.{greatest, owed-slots}
 use Rattle.slot_clock.specs.Walk.{ticks-cursor}
 use Rattle.slot_clock.proofs.Walks.{greatest-most, step-due, step-skip}
 use Rattle.slot_clock.proofs.Steps.{cursor-enough, owed-ahead, owed-past, owed-same}

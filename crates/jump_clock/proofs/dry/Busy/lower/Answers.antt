@@ -1,10 +1,8 @@
-use mathlib.Core.Path.{_≡_, refl, sym, ap, subst, _∙_}
-use mathlib.Core.List.{List}
-use Prim.Native.Nat.{ℕ, _-_, _<_, _≤_}
+use mathlib.Core.Path.{_≡_, refl, subst, _∙_}
+use Prim.Native.Nat.{_-_}
 use native.Mathlib.Omega.{arith}
-use lib.ListN.{length, take, drop}
+use lib.ListN.{take, drop}
 use Rattle.heap_order.specs.Heaps.{Heavy}
-use Rattle.jump_clock.specs.declared.dry.Dry.{Dry}
 use Rattle.jump_clock.specs.Dries.{by-end}
 use Rattle.jump_clock.proofs.Heaps.{sifted, sifted-length}
 use Rattle.jump_clock.proofs.dry.Busy.lower.Needs as need

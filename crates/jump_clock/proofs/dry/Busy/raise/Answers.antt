@@ -1,11 +1,9 @@
-use mathlib.Core.Path.{_≡_, refl, sym, ap, subst, _∙_}
-use mathlib.Core.List.{List}
-use Prim.Native.Nat.{ℕ, _-_, _<_, _≤_}
+use mathlib.Core.Path.{_≡_, refl, subst, _∙_}
+use Prim.Native.Nat.{_-_, _<_}
 use native.Mathlib.Omega.{arith}
 use lib.ListN.{length, take, drop}
 use Rattle.std.proofs.shelf.Lists.{length-take-le}
 use Rattle.heap_order.specs.Heaps.{Loose}
-use Rattle.jump_clock.specs.declared.dry.Dry.{Dry}
 use Rattle.jump_clock.specs.Dries.{by-end}
 use Rattle.jump_clock.proofs.Heaps.{sifted, sifted-length}
 use Rattle.jump_clock.proofs.dry.Busy.raise.Needs as need

@@ -1,4 +1,3 @@
-use Prim.Native.Nat.{_+_, _<_}
 use native.Mathlib.Omega.{arith}
 use Rattle.slot_clock.proofs.Holding.{held-stamp, held-low}
 use Rattle.jump_clock.proofs.jump.ByJumps.add.Needs as need

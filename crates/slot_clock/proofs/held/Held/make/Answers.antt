@@ -1,13 +1,11 @@
 use borrow.Author.Needs.{needs}
-use mathlib.Core.Path.{_≡_, refl, sym, ap, _∙_}
-use mathlib.Core.Logic.{inl, inr, ⊎-elim}
-use mathlib.Core.List.{List}
-use Prim.Native.Nat.{ℕ, _≤_, _<_}
+use mathlib.Core.Path.{refl}
+use Prim.Native.Nat.{_≤_, _<_}
 use native.Mathlib.Omega.{arith}
 use lib.ListN.{length, take, replicate}
 use Rattle.std.proofs.shelf.Lists.{take-replicate}
 use Rattle.slot_clock.specs.Held.{held-state}
-use Rattle.slot_clock.proofs.Making.{starts, no-sessions, no-weights, made}
+use Rattle.slot_clock.proofs.Making.{starts, made}
 use Rattle.slot_clock.proofs.held.Held.make.Needs as need
 
 pub ghost-result : need.ghost-result

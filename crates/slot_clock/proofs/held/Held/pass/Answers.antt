@@ -1,9 +1,7 @@
-use mathlib.Core.Path.{_≡_, refl, sym, ap, _∙_}
-use Prim.Native.Nat.{_+_, _-_, _≤_}
-use lib.ListN.{length}
+use mathlib.Core.Path.{refl, _∙_}
+use Prim.Native.Nat.{_-_}
 use native.Mathlib.Omega.{arith}
-use Rattle.tick_machine.specs.Owed.{owed-slots}
-use Rattle.slot_clock.specs.Held.{held-state, weights-of, next-of}
+use Rattle.slot_clock.specs.Held.{held-state}
 use Rattle.slot_clock.proofs.Holding.{held-passed, pass-answer, pass-after}
 use Rattle.slot_clock.proofs.held.Held.pass.Needs as need
 

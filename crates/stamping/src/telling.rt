@@ -137,14 +137,14 @@ fn play<C: SlotClock, D: SlotClock, V: WaitingLine, W: WaitingLine>(
     Ok(agreed)
 }
 
-fn tell_pair(rt: &LibcRuntime, name: &str, taken: Option<Pair>) -> io::Result<()> {
+fn tell_pair(rt: &LibcRuntime, before: &str, taken: Option<Pair>) -> io::Result<()> {
     match taken {
         Some(pair) => {
             let packet = pair.packet;
             let stamp = pair.stamp;
-            print!(rt, "  {name}: packet {packet} with stamp {stamp};")
+            print!(rt, "{before}: packet {packet} with stamp {stamp}")
         }
-        None => print!(rt, "  {name}: none;"),
+        None => print!(rt, "{before}: none"),
     }
 }
 
@@ -161,8 +161,8 @@ fn send_all<V: WaitingLine, W: WaitingLine>(
     while v.size() > 0 {
         let (one, other) = both_take(v, w);
         agreed = agreed && same_pair(one, other);
-        tell_pair(rt, "heap line", one)?;
-        tell_pair(rt, "sorted line", other)?;
+        tell_pair(rt, "  heap line", one)?;
+        tell_pair(rt, "; sorted line", other)?;
         println!(rt, "")?;
     }
     Ok(agreed)

@@ -1,3 +1,7 @@
 pub mod Refusals
 pub mod State
 pub mod Calls
+pub mod Layout
+pub mod Walk
+pub mod Held
+pub mod Theorems

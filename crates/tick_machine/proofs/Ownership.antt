@@ -11,11 +11,11 @@ use Rattle.tick_machine.specs.Lists.{count}
 use Rattle.tick_machine.specs.Slots.{round-length, holder, Each-position-has-one-owner, Each-session-owns-its-weight}
 use Rattle.tick_machine.proofs.Counts.{count-same, count-all, count-none, count-split}
 
-holder-front : (w p : ℕ) (ws : List ℕ) → p < w → holder (w ∷ ws) p ≡ 0
+pub holder-front : (w p : ℕ) (ws : List ℕ) → p < w → holder (w ∷ ws) p ≡ 0
 unfolding holder
 holder-front w p ws l = cond-true (ltb p w) 0 (suc (holder ws (p - w))) (lt-ltb p w l)
 
-holder-back : (w p : ℕ) (ws : List ℕ) → w ≤ p → holder (w ∷ ws) p ≡ suc (holder ws (p - w))
+pub holder-back : (w p : ℕ) (ws : List ℕ) → w ≤ p → holder (w ∷ ws) p ≡ suc (holder ws (p - w))
 unfolding holder
 holder-back w p ws l = cond-false (ltb p w) 0 (suc (holder ws (p - w))) (le-ltb p w l)
 

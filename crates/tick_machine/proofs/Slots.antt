@@ -16,7 +16,7 @@ use Rattle.tick_machine.proofs.Windows.{reach}
 
 module _ (test : ℕ → Bool) where
   -- the slot found passes, and none before it does
-  pub Found : ℕ → ℕ → Type 0
+  unfoldable pub Found : ℕ → ℕ → Type 0
   Found q r = (test r ≡ true) × (q ≤ r) × ((s : ℕ) → q ≤ s → test s ≡ true → r ≤ s)
 
   pub lowest-found : (k q s : ℕ) → q ≤ s → s < q + k → test s ≡ true → Found q (lowest test k q)

@@ -1,0 +1,4 @@
+pub mod Heaps
+pub mod Busies
+pub mod Leaps
+pub mod Runs

@@ -1,0 +1,2 @@
+pub mod Dries
+pub mod Jumps

@@ -1,0 +1,11 @@
+pub mod Counts
+pub mod Blocks
+pub mod Walks
+pub mod Rounds
+pub mod Reaches
+pub mod Sound
+pub mod Holding
+pub mod Making
+pub mod Masks
+pub mod Steps
+pub mod Servers

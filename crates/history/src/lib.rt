@@ -1,5 +1,5 @@
 // A history of one link, run.
-mod answers;
+mod hand;
 pub mod clerk;
 mod ending;
 pub mod one_link;

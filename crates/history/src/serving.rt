@@ -3,14 +3,14 @@ ghost use Prim.Native.Nat.{ℕ};
 ghost use Rattle.history_reply.specs.Stages.{Stage, obey};
 ghost use Rattle.history_text.specs.declared.commands.Command.the-variants as command;
 ghost use Rattle.history.specs.Standing.{At-link, Went};
-use crate::answers::accepted;
-use crate::answers::copy_of;
-use crate::answers::figured;
-use crate::answers::moved;
+use crate::hand::copy_of;
 use crate::clerk::LinkClerk;
 use history_reply::replies::Reply;
 use history_text::commands::Command;
 use history_text::faults::Cause;
+use link::answers::of_arrival;
+use link::answers::of_figures;
+use link::answers::of_move;
 use link::link::Link;
 use link::slip::Slip;
 use slot_clock::clock::SlotClock;
@@ -115,15 +115,15 @@ pub fn serve<W: WaitingLine, S: SlotClock>(
     let mut link = link;
     match command {
         Command::Arrive(session, size, tag) => {
-            let answer = accepted(link.arrive(session, size, tag));
+            let answer = of_arrival(link.arrive(session, size, tag));
             (LinkClerk::Serving(link, hand), Reply::Answer(answer))
         }
         Command::MoveTo(tick) => {
-            let answer = moved(tick, link.move_to(tick));
+            let answer = of_move(tick, link.move_to(tick));
             (LinkClerk::Serving(link, hand), Reply::Answer(answer))
         }
         Command::AskFigures(session) => {
-            let answer = figured(link.figures(session));
+            let answer = of_figures(link.figures(session));
             (LinkClerk::Serving(link, hand), Reply::Answer(answer))
         }
         Command::AskTotals => {

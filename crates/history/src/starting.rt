@@ -5,11 +5,11 @@ ghost use Rattle.link.specs.Drafting.{Drafts};
 ghost use Rattle.history_reply.specs.Stages.{before, draft as at-draft-of, obey};
 ghost use Rattle.history_lines.specs.Clerks.{Obeyed};
 ghost use Rattle.history.specs.Standing.{Stands, Went};
-use crate::answers::added;
 use crate::clerk::LinkClerk;
 use history_reply::replies::Reply;
 use history_text::commands::Command;
 use history_text::faults::Cause;
+use link::answers::of_adding;
 use link::draft::Draft;
 use link::error::MakeError;
 use slot_clock::clock::SlotClock;
@@ -66,7 +66,7 @@ pub fn draw_up<W: WaitingLine, S: SlotClock>(
     match command {
         Command::Add(weight) => {
             let mut draft = draft;
-            let answer = added(draft.add(weight));
+            let answer = of_adding(draft.add(weight));
             (LinkClerk::Drafting(draft), Reply::Answer(answer))
         }
         Command::Open => {

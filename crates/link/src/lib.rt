@@ -6,4 +6,5 @@ mod table;
 mod limits;
 pub mod error;
 pub mod link;
+pub mod answers;
 pub mod draft;

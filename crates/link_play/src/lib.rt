@@ -1,5 +1,4 @@
 // Plays a list of steps on a link over any waiting line and any slot clock, and spends every slip on the way.
 pub mod step;
-mod answers;
 mod spending;
 pub mod play;

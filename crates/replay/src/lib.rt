@@ -3,5 +3,4 @@ mod hand;
 pub mod making;
 pub mod play;
 pub mod played;
-mod said;
 mod turns;

@@ -10,10 +10,10 @@ ghost use Rattle.replay.specs.Hand.{Held, Reached, Answers, Fresh, Called, Add
 use crate::hand::collect;
 use crate::hand::file;
 use crate::hand::give_back;
-use crate::said::adding;
-use crate::said::arrival;
-use crate::said::clock_move;
-use crate::said::reading;
+use link::answers::of_adding;
+use link::answers::of_arrival;
+use link::answers::of_figures;
+use link::answers::of_move;
 use link::draft::Draft;
 use link::link::Link;
 use link::slip::Slip;
@@ -34,12 +34,12 @@ fn answer<W: WaitingLine, S: SlotClock>(
     ensures room { λ _. ⌜ vec-cap (now (slips .exit)) ≡ vec-cap (now (slips .entry)) ⌝ }
 {
     match call {
-        Call::Arrive(session, size, tag) => arrival(link.arrive(session, size, tag)),
-        Call::MoveTo(tick) => clock_move(tick, link.move_to(tick)),
+        Call::Arrive(session, size, tag) => of_arrival(link.arrive(session, size, tag)),
+        Call::MoveTo(tick) => of_move(tick, link.move_to(tick)),
         Call::Collect => collect(link, slips),
         Call::File(number, packet) => file(link, slips, number, packet),
         Call::Return(number, packet) => give_back(link, slips, number, packet),
-        Call::AskFigures(session) => reading(link.figures(session)),
+        Call::AskFigures(session) => of_figures(link.figures(session)),
         Call::AskTotals => Answer::TotalsAre(link.totals()),
     }
 }
@@ -69,6 +69,6 @@ pub fn add_all<W: WaitingLine>(draft: &mut Draft<W>, addings: &[u64], answers: &
     ensures room { λ _. ⌜ vec-cap (now (answers .exit)) ≡ vec-cap (now (answers .entry)) ⌝ }
 {
     for weight in addings {
-        answers.push_reserved(adding(draft.add(*weight)));
+        answers.push_reserved(of_adding(draft.add(*weight)));
     }
 }

@@ -15,7 +15,7 @@ loop-weight-again g c =
       omega (arith, said .len, inv .0),
       said .capacity ∙ inv .1,
       λ f h.
-          added-more (c .args .addings .now) (c .loop-weight .weight-index) _ (c .loop-weight-test .taken) _ _ _ (c .adding .result) (c .add .result) (inv .2 f h) (said .items) (c .adding .ensures) (c .add .ensures .added _ (inv .2 f h .drafts)),
+          added-more (c .args .addings .now) (c .loop-weight .weight-index) _ (c .loop-weight-test .taken) _ _ _ (c .of-adding .result) (c .add .result) (inv .2 f h) (said .items) (c .of-adding .ensures) (c .add .ensures .added _ (inv .2 f h .drafts)),
     )
 
 pub returns : need.returns

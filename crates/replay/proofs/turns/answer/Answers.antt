@@ -4,6 +4,6 @@ use Rattle.replay.proofs.turns.answer.Needs as need
 
 pub returns-in-MoveTo : need.returns-in-MoveTo
 returns-in-MoveTo g c = record {
-  answered = λ f calls h. moved-answered h (c .in-MoveTo .is) (c .clock-move .ensures) (c .move-to .ensures f calls (h .led));
+  answered = λ f calls h. moved-answered h (c .in-MoveTo .is) (c .of-move .ensures) (c .move-to .ensures f calls (h .led));
   room = search needs;
 }

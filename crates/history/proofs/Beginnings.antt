@@ -20,7 +20,7 @@ use Rattle.history_text.specs.declared.commands.Command.{Command}
 use Rattle.history_text.specs.declared.commands.Command.the-variants as command
 use Rattle.history_reply.specs.declared.replies.Reply.{Reply}
 use Rattle.history_reply.specs.declared.replies.Reply.the-variants as reply
-use Rattle.history_reply.specs.Stages.{Stage, before, draft, making, obey}
+use Rattle.history_reply.specs.Stages.{before, draft, making, obey}
 use Rattle.history.specs.declared.clerk.LinkClerk.{LinkClerk}
 use Rattle.history.specs.declared.clerk.LinkClerk.the-variants as clerk
 use Rattle.history.specs.Standing.{Went}

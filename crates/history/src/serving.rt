@@ -1,5 +1,4 @@
 // Commands at an open link.
-ghost use Prim.Native.Nat.{ℕ};
 ghost use Rattle.history_reply.specs.Stages.{Stage, obey};
 ghost use Rattle.history_text.specs.declared.commands.Command.the-variants as command;
 ghost use Rattle.history.specs.Standing.{At-link, Went};

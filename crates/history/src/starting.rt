@@ -1,5 +1,4 @@
 // Commands before an accepted link, and at a draft.
-ghost use Prim.Native.Nat.{ℕ};
 ghost use Rattle.tick_machine.specs.Machine.{Config};
 ghost use Rattle.link.specs.Drafting.{Drafts};
 ghost use Rattle.history_reply.specs.Stages.{before, draft as at-draft-of, obey};

@@ -1,7 +1,5 @@
 // A clerk takes the commands of a history, one after another.
 ghost use mathlib.Core.Path.{_≡_};
-ghost use mathlib.Core.List.{List};
-ghost use Prim.Native.Nat.{ℕ};
 ghost use Rattle.history_reply.specs.Stages.{Stage, phase-of, obey};
 ghost use Rattle.history_reply.specs.Transcript.{ending};
 ghost use Rattle.history_lines.specs.Clerks.{Obeyed, last-lines};

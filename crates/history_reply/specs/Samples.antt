@@ -1,7 +1,6 @@
 -- Small histories and what they print. Assumes nothing.
 use mathlib.Core.Path.{_≡_}
-use mathlib.Core.List.{List, []}
-use Prim.Native.Nat.{ℕ}
+use mathlib.Core.List.{[]}
 use lib.Chars.{codes}
 use Rattle.history_reply.specs.Transcript.{transcript}
 

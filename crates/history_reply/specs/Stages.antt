@@ -1,5 +1,4 @@
 -- Where a history stands, and what a command does there. Assumes nothing.
-use mathlib.Core.List.{List, []}
 use Prim.Native.Nat.{ℕ}
 use Rattle.std.specs.declared.option.Option.{Option}
 use Rattle.std.specs.declared.option.Option.the-variants.{Some, None}

@@ -9,7 +9,7 @@ use Rattle.history_text.specs.declared.words.Word.{Word}
 use Rattle.history_text.specs.declared.words.Word.the-variants.{Link, Sess, Open, Arr, At, Figs, Tots, Take, Filed, Back}
 use Rattle.history_text.specs.Numerals.{numeral}
 use Rattle.history_text.specs.Vocabulary.{spelled, word}
-use Rattle.history_text.specs.Fields.{Kind, numbered, kind, number-in, word-in}
+use Rattle.history_text.specs.Fields.{numbered, kind, number-in, word-in}
 use Rattle.std.proofs.shelf.Tests.{ne-eqb, cond-false}
 use lib.Dec.{eqb}
 use lib.ListN.{length}

@@ -10,7 +10,7 @@ use Rattle.std.specs.Options.{Cases, okOr}
 use Rattle.std.specs.declared.option.Option.{Option}
 use Rattle.std.specs.declared.option.Option.the-variants.{Some, None}
 use Rattle.std.specs.declared.result.Result.{Result}
-use Rattle.std.specs.declared.result.Result.the-variants.{Ok, Err}
+use Rattle.std.specs.declared.result.Result.the-variants.{Err}
 use Rattle.history_text.specs.declared.fields.Token.{Token}
 use Rattle.history_text.specs.declared.fields.Token.the-variants as token
 use Rattle.history_text.specs.declared.fields.Field.{Field}

@@ -1,6 +1,6 @@
 // A text is cut at a byte. The parts borrow the text.
 ghost use mathlib.Core.Path.{_≡_};
-ghost use Prim.Native.Nat.{ℕ, _+_, _<_, _≤_};
+ghost use Prim.Native.Nat.{_+_, _<_, _≤_};
 ghost use lib.ListN.{length};
 ghost use Rattle.history_text.specs.Cuts.{cut, Cuts};
 

@@ -1,7 +1,6 @@
 // The fields of a line, one after another. A field borrows the line and knows the byte at which it begins, counted from 1.
 ghost use mathlib.Core.Path.{_≡_};
-ghost use mathlib.Core.List.{List, [], _∷_};
-ghost use Prim.Native.Nat.{ℕ, _+_, _≤_, _<_};
+ghost use Prim.Native.Nat.{_+_, _≤_, _<_};
 ghost use lib.ListN.{length};
 ghost use Rattle.history_text.specs.Cuts.{cut};
 ghost use Rattle.history_text.specs.Fields.{kind, shown, coming, reach, First, first-number, later, onward};

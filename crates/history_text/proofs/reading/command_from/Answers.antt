@@ -1,4 +1,3 @@
-use mathlib.Core.List.{[], _∷_}
 use borrow.Author.Needs.{needs}
 use Rattle.history_text.specs.Fields.{coming}
 use Rattle.history_text.specs.declared.words.Word.the-variants.{Link, Sess, Arr, At, Figs}

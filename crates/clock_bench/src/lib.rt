@@ -6,10 +6,13 @@ use slot_clock::clock::SlotClock;
 use slot_clock::step::BySteps;
 use slot_clock::step::StepClock;
 
-static WEIGHTS: [u64; 64] = [
-    1, 2, 3, 4, 5, 6, 7, 8, 9, 10, 11, 12, 13, 14, 15, 16, 17, 18, 19, 20, 21, 22, 23, 24, 25, 26, 27, 28, 29, 30, 31, 32, 33,
-    34, 35, 36, 37, 38, 39, 40, 41, 42, 43, 44, 45, 46, 47, 48, 49, 50, 51, 52, 53, 54, 55, 56, 57, 58, 59, 60, 61, 62, 63, 64,
-];
+fn weights() -> [u64; 64] {
+    let mut all = [0; 64];
+    for i in 0..64 {
+        all[i] = i as u64 + 1;
+    }
+    all
+}
 
 fn mixed(sum: u64, value: u64) -> u64 {
     sum.wrapping_mul(31).wrapping_add(value)
@@ -55,7 +58,8 @@ fn work<S: SlotClock + Drop>(
     moves: u64,
 ) -> u64 {
     let count = sessions.min(64);
-    let Ok(mut clock) = S::make(&WEIGHTS[..count as usize]) else {
+    let all = weights();
+    let Ok(mut clock) = S::make(&all[..count as usize]) else {
         return 0;
     };
     let stamps = load(&mut clock, count, size, packets);

@@ -1,11 +1,13 @@
 // Two clocks, or two waiting lines, side by side: the same call of both. Those that stand for the same answer the same, and
 // stand for the same afterwards.
 ghost use mathlib.Core.Path.{_≡_};
-ghost use mathlib.Core.Bool.{true};
+ghost use mathlib.Core.Bool.{true, cond};
+ghost use mathlib.Core.List.{[]};
 ghost use Rattle.std.specs.Results.{Cases};
 ghost use Rattle.std.specs.declared.result.Result.the-variants.{Ok, Err};
 ghost use Rattle.slot_clock.specs.Calls.{made-answer, add-answer, add-after, run-answer, run-after, owed-answer};
-ghost use Rattle.waiting_line.specs.Lines.{room-answer, put-answer, put-after, first, rest};
+ghost use Rattle.waiting_line.specs.declared.refusal.MakeRefusal.the-variants.{Capacity, NoMemory};
+ghost use Rattle.waiting_line.specs.Lines.{fitting, room-answer, put-answer, put-after, first, rest};
 ghost use Rattle.stamping.specs.Alike.{Same-clocks, Same-lines};
 use slot_clock::clock::SlotClock;
 use slot_clock::refusal::ClockRefusal;
@@ -26,18 +28,19 @@ pub fn both_clocks<C: SlotClock + Drop, D: SlotClock + Drop>(
     Ok((a, b))
 }
 
-// Two empty lines with that capacity.
+// Two empty lines with that capacity, or the refusal.
 pub fn both_lines<V: WaitingLine + Drop, W: WaitingLine + Drop>(
     heap: Global,
     capacity: u64,
 ) -> Result<(V, W), MakeRefusal>
-    ensures { λ r. ⌜ Cases r (λ p. (V·WaitingLine .capacity (p .0) ≡ capacity) × Same-lines (V·WaitingLine .pairs) (V·WaitingLine .capacity) (W·WaitingLine .pairs) (W·WaitingLine .capacity) (p .0) (p .1)) (λ _. Unit {0}) ⌝ }
+    ensures { λ r. ⌜ Cases r (λ p. (fitting capacity ≡ true) × (V·WaitingLine .pairs (p .0) ≡ []) × (V·WaitingLine .capacity (p .0) ≡ capacity) × Same-lines (V·WaitingLine .pairs) (V·WaitingLine .capacity) (W·WaitingLine .pairs) (W·WaitingLine .capacity) (p .0) (p .1)) (λ e. e ≡ cond (fitting capacity) NoMemory Capacity) ⌝ }
 {
     let v = V::make(heap, capacity)?;
     let w = W::make(heap, capacity)?;
     Ok((v, w))
 }
 
+// A packet of a session: its stamp by both.
 pub fn both_add<C: SlotClock, D: SlotClock>(
     a: &mut C,
     b: &mut D,
@@ -51,6 +54,7 @@ pub fn both_add<C: SlotClock, D: SlotClock>(
     (a.add(session, size), b.add(session, size))
 }
 
+// So many ticks pass for both.
 pub fn both_run<C: SlotClock, D: SlotClock>(
     a: &mut C,
     b: &mut D,
@@ -63,6 +67,7 @@ pub fn both_run<C: SlotClock, D: SlotClock>(
     (a.run(ticks), b.run(ticks))
 }
 
+// The bytes that both owe a session.
 pub fn both_owed<C: SlotClock, D: SlotClock>(
     a: &C,
     b: &D,
@@ -74,6 +79,7 @@ pub fn both_owed<C: SlotClock, D: SlotClock>(
     (a.owed(session), b.owed(session))
 }
 
+// V of both.
 pub fn both_cursor<C: SlotClock, D: SlotClock>(a: &C, b: &D) -> (u64, u64)
     ensures answer { λ r. ⌜ r .0 ≡ C·SlotClock .state (now (a .entry)) .cursor ⌝ }
     ensures same { λ r. ⌜ (Same-clocks (C·SlotClock .state) (D·SlotClock .state) (now (a .entry)) (now (b .entry)) → r .0 ≡ r .1) ⌝ }
@@ -81,6 +87,7 @@ pub fn both_cursor<C: SlotClock, D: SlotClock>(a: &C, b: &D) -> (u64, u64)
     (a.cursor(), b.cursor())
 }
 
+// Whether both have room.
 pub fn both_room<V: WaitingLine, W: WaitingLine>(
     v: &V,
     w: &W,
@@ -91,6 +98,7 @@ pub fn both_room<V: WaitingLine, W: WaitingLine>(
     (v.room(), w.room())
 }
 
+// A pair comes into both.
 pub fn both_put<V: WaitingLine, W: WaitingLine>(
     v: &mut V,
     w: &mut W,
@@ -103,6 +111,7 @@ pub fn both_put<V: WaitingLine, W: WaitingLine>(
     (v.put(pair), w.put(pair))
 }
 
+// The pair with the least stamp leaves both.
 pub fn both_take<V: WaitingLine, W: WaitingLine>(
     v: &mut V,
     w: &mut W,

@@ -1,8 +1,10 @@
 // The steps of the input on two clocks and two waiting lines. Parts that stand for the same answer the same throughout.
 ghost use mathlib.Core.Path.{_≡_};
 ghost use mathlib.Core.Bool.{true};
-ghost use Rattle.std.specs.Vec.{made};
+ghost use Rattle.slot_clock.specs.Calls.{add-answer, run-answer};
+ghost use Rattle.waiting_line.specs.Lines.{room-answer, put-answer};
 ghost use Rattle.stamping.specs.Alike.{Same-clocks, Same-lines};
+ghost use Rattle.stamping.specs.Outcomes.{told-run, told-put, told-stamp, told-room, told-step};
 use crate::both::both_add;
 use crate::both::both_put;
 use crate::both::both_room;
@@ -57,6 +59,7 @@ pub fn same_pair(x: Option<Pair>, y: Option<Pair>) -> bool
 // The ticks pass for both clocks.
 fn run_both<C: SlotClock, D: SlotClock>(a: &mut C, b: &mut D, ticks: u64) -> (Outcome, bool)
     requires { ⌜ Same-clocks (C·SlotClock .state) (D·SlotClock .state) (now a) (now b) ⌝ }
+    ensures outcome { λ r. ⌜ r .0 ≡ told-run ticks (run-answer (C·SlotClock .state (now (a .entry))) ticks) ⌝ }
     ensures agreed { λ r. ⌜ r .1 ≡ true ⌝ }
     ensures clocks { λ _. ⌜ Same-clocks (C·SlotClock .state) (D·SlotClock .state) (now (a .exit)) (now (b .exit)) ⌝ }
 {
@@ -71,6 +74,7 @@ fn run_both<C: SlotClock, D: SlotClock>(a: &mut C, b: &mut D, ticks: u64) -> (Ou
 // A packet with a stamp goes into both lines.
 fn wait_both<V: WaitingLine, W: WaitingLine>(v: &mut V, w: &mut W, pair: Pair) -> (Outcome, bool)
     requires { ⌜ Same-lines (V·WaitingLine .pairs) (V·WaitingLine .capacity) (W·WaitingLine .pairs) (W·WaitingLine .capacity) (now v) (now w) ⌝ }
+    ensures outcome { λ r. ⌜ r .0 ≡ told-put (pair .stamp) (put-answer (V·WaitingLine .pairs (now (v .entry))) (V·WaitingLine .capacity (now (v .entry))) pair) ⌝ }
     ensures agreed { λ r. ⌜ r .1 ≡ true ⌝ }
     ensures lines { λ _. ⌜ Same-lines (V·WaitingLine .pairs) (V·WaitingLine .capacity) (W·WaitingLine .pairs) (W·WaitingLine .capacity) (now (v .exit)) (now (w .exit)) ⌝ }
 {
@@ -93,6 +97,7 @@ fn stamp_both<C: SlotClock, D: SlotClock, V: WaitingLine, W: WaitingLine>(
 ) -> (Outcome, bool)
     requires clocks { ⌜ Same-clocks (C·SlotClock .state) (D·SlotClock .state) (now a) (now b) ⌝ }
     requires lines { ⌜ Same-lines (V·WaitingLine .pairs) (V·WaitingLine .capacity) (W·WaitingLine .pairs) (W·WaitingLine .capacity) (now v) (now w) ⌝ }
+    ensures outcome { λ r. ⌜ r .0 ≡ told-room (room-answer (V·WaitingLine .pairs (now (v .entry))) (V·WaitingLine .capacity (now (v .entry)))) (told-stamp (V·WaitingLine .pairs (now (v .entry))) (V·WaitingLine .capacity (now (v .entry))) packet (add-answer (C·SlotClock .state (now (a .entry))) (asked .0) (asked .1))) ⌝ }
     ensures agreed { λ r. ⌜ r .1 ≡ true ⌝ }
     ensures clocks { λ _. ⌜ Same-clocks (C·SlotClock .state) (D·SlotClock .state) (now (a .exit)) (now (b .exit)) ⌝ }
     ensures lines { λ _. ⌜ Same-lines (V·WaitingLine .pairs) (V·WaitingLine .capacity) (W·WaitingLine .pairs) (W·WaitingLine .capacity) (now (v .exit)) (now (w .exit)) ⌝ }
@@ -124,6 +129,7 @@ pub fn step_both<C: SlotClock, D: SlotClock, V: WaitingLine, W: WaitingLine>(
 ) -> (Outcome, bool)
     requires clocks { ⌜ Same-clocks (C·SlotClock .state) (D·SlotClock .state) (now a) (now b) ⌝ }
     requires lines { ⌜ Same-lines (V·WaitingLine .pairs) (V·WaitingLine .capacity) (W·WaitingLine .pairs) (W·WaitingLine .capacity) (now v) (now w) ⌝ }
+    ensures outcome { λ r. ⌜ r .0 ≡ told-step (C·SlotClock .state (now (a .entry))) (V·WaitingLine .pairs (now (v .entry))) (V·WaitingLine .capacity (now (v .entry))) step packet ⌝ }
     ensures agreed { λ r. ⌜ r .1 ≡ true ⌝ }
     ensures clocks { λ _. ⌜ Same-clocks (C·SlotClock .state) (D·SlotClock .state) (now (a .exit)) (now (b .exit)) ⌝ }
     ensures lines { λ _. ⌜ Same-lines (V·WaitingLine .pairs) (V·WaitingLine .capacity) (W·WaitingLine .pairs) (W·WaitingLine .capacity) (now (v .exit)) (now (w .exit)) ⌝ }

@@ -204,7 +204,10 @@ pub fn session<
     let Some((mut a, mut b, sessions, from)) = start::<C, D>(rt, texts)? else {
         return Err("no line has weights for a clock".into());
     };
-    println!(rt, "line {from}: {sessions} sessions; lines for {CAPACITY} packets")?;
+    println!(
+        rt,
+        "line {from}: {sessions} sessions; lines for {CAPACITY} packets"
+    )?;
     let Ok((mut v, mut w)) = both_lines::<V, W>(rt.alloc(), CAPACITY) else {
         return Err("no waiting line could be made".into());
     };

@@ -27,7 +27,7 @@ share-off : (r : ℕ) (p : Pair) → (r ≡ remainder (p .stamp) → ⊥) → sh
 share-off r p n = cond-false (eqb r (remainder (p .stamp))) _ _ (ne-eqb _ _ n)
 
 -- no more pairs share a remainder than there are
-pub sharing-few : (r : ℕ) (ps : List Pair) → sharing r ps ≤ length ps
+sharing-few : (r : ℕ) (ps : List Pair) → sharing r ps ≤ length ps
 sharing-few r [] = omega arith
 sharing-few r (p ∷ ps) = ⊎-elim
     (λ e. omega (arith, share-at r p e, sharing-few r ps))

@@ -2,7 +2,6 @@
 // pairs have a stamp with each remainder by that prime. A stamp whose count is 0 is not in the line; only another is looked for,
 // pair by pair. Its memory is reserved when it is made.
 ghost use mathlib.Core.Path.{_≡_};
-ghost use mathlib.Core.Bool.{true, false};
 ghost use Prim.Native.Nat.{ℕ, _<_, _≤_};
 ghost use lib.ListN.{getD};
 ghost use Rattle.std.specs.Results.{Cases};
@@ -20,7 +19,7 @@ use heap_order::vec_heap::take_first;
 use std::alloc::Global;
 use tick_machine::refusal::LineRefusal;
 
-// A prime, so that stamps at even distances spread over the counts.
+// A prime, so that stamps at equal distances spread over the counts.
 const REMAINDERS: usize = 8191;
 
 pub impl TotalOrder for Pair as ByStamp {

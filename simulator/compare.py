@@ -1,14 +1,14 @@
 #!/usr/bin/env python3
 """Compares programs with the simulator, byte for byte.
 
-    python3 simulator/compare.py [--count N] [--seed S] PROGRAM...
+    python3 simulator/compare.py [--count N] [--first S] PROGRAM...
 
 Each PROGRAM is a command line in one argument (quote it if it has arguments
 of its own) that reads a history from standard input and writes to standard
 output what docs/RULES.md says. Each gets each history of the set of
 histories.py. The simulator goes through each history once, with the audit.
 
-For each difference the seed, the first differing line and both versions of it
+For each difference the number of the history, the first differing line and both versions of it
 are printed. A program that ends with a status other than 0, or does not end
 within a minute, differs too. The last line says how many outputs were compared
 and how many differ; if any does, or an audit fails, the status is 1.
@@ -70,7 +70,7 @@ def difference(program, seed, expected, printed, ending):
     differing = first_difference(expected, printed)
     if differing is None and ending is None:
         return None
-    text = [f"seed {seed} ({histories.kind_of(seed).__name__}): {program}"]
+    text = [f"history {seed} ({histories.kind_of(seed).__name__}): {program}"]
     if ending is not None:
         text.append(f"  {ending}")
     if differing is not None:
@@ -97,7 +97,7 @@ def compare(programs, seeds):
             try:
                 expected = simulate.run(history, audit=True)
             except AuditFailure as failure:
-                raise AuditFailure(f"seed {seed}: {failure}")
+                raise AuditFailure(f"history {seed}: {failure}")
             for index in range(len(programs)):
                 jobs.append(workers.submit(one, index, seed, history, expected))
         differences = [[] for _ in programs]
@@ -114,7 +114,7 @@ def main():
     parser.add_argument("program", nargs="+", help="a command line, in one argument")
     options = parser.parse_args()
     begun = time.time()
-    seeds = range(options.seed, options.seed + options.count)
+    seeds = range(options.first, options.first + options.count)
     try:
         differences = compare(options.program, seeds)
     except AuditFailure as failure:
@@ -131,7 +131,7 @@ def main():
     for program, found in zip(options.program, differences):
         print(f"{program}: {len(seeds)} histories compared, {len(found)} differ")
     differing = sum(len(found) for found in differences)
-    print(f"seeds {seeds.start} to {seeds.stop - 1}, {time.time() - begun:.1f} s")
+    print(f"histories {seeds.start} to {seeds.stop - 1}, {time.time() - begun:.1f} s")
     print(f"{len(seeds) * len(options.program)} compared, {differing} differ")
     return 1 if differing else 0
 

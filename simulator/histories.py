@@ -1,11 +1,11 @@
 #!/usr/bin/env python3
-"""Histories that seek the corners, made from seeds.
+"""Histories that seek the corners, made from numbers.
 
     python3 simulator/histories.py                       simulate and audit the set, report what it covers
-    python3 simulator/histories.py --count N --seed S    the same for the seeds S to S + N - 1
+    python3 simulator/histories.py --count N --first S    the same for the numbers S to S + N - 1
     python3 simulator/histories.py --print SEED          write one history to standard output
 
-A seed always gives the same history. The set is the seeds 1 to 600. The run
+A number always gives the same history. The set is the numbers 1 to 600. The run
 ends with status 1 if an audit fails, or if a refusal or fault number is
 printed by no history of the set.
 
@@ -577,7 +577,7 @@ def noise(d):
     return text
 
 
-# How many of each 60 seeds in a row give which kind.
+# How many of each 60 numbers in a row give which kind.
 SHARES = (
     (small, 6), (tiny, 4), (rush, 3), (all_sessions, 2), (heavy_weights, 4), (silence, 5),
     (last_tick, 4), (tight, 4), (steady, 3), (backlog, 2), (bulk, 3), (fill_the_waiting_line, 1),
@@ -592,7 +592,7 @@ def kind_of(seed):
 
 
 def history(seed):
-    """The history of a seed, in bytes."""
+    """The history of a number, in bytes."""
     return kind_of(seed)(Dice(seed))
 
 
@@ -630,7 +630,7 @@ class Coverage:
 
 def arguments_for_a_set(parser):
     parser.add_argument("--count", type=int, default=COUNT, help=f"how many histories ({COUNT})")
-    parser.add_argument("--seed", type=int, default=FIRST_SEED, help=f"the first seed ({FIRST_SEED})")
+    parser.add_argument("--first", type=int, default=FIRST_SEED, help=f"the first number ({FIRST_SEED})")
 
 
 def main():
@@ -648,13 +648,13 @@ def main():
     attained = {"prompt": 0, "level": 0, "timely": 0, "latest tick": 0}
     ticks = 0
     seconds = {}
-    for seed in range(options.seed, options.seed + options.count):
+    for seed in range(options.first, options.first + options.count):
         kind_begun = time.time()
         audit = Audit()
         try:
             coverage.add(simulate.run(history(seed), audit))
         except AuditFailure as failure:
-            print(f"seed {seed} ({kind_of(seed).__name__}): audit failed: {failure}")
+            print(f"history {seed} ({kind_of(seed).__name__}): audit failed: {failure}")
             return 1
         ticks += audit.ticks
         for statement, slack in audit.least_slack.items():

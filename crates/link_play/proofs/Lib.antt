@@ -1,2 +1,3 @@
 pub mod Outs
 pub mod Steps
+pub mod Replies

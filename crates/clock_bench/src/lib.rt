@@ -1,5 +1,8 @@
 // Work for the two slot clocks, to be timed from outside: plain numbers in, a sum of what the clock then says out, so that
 // equal sums show equal clocks. Session i has the weight i + 1; at most 64 sessions count.
+
+#![tactic(auto)]
+
 use jump_clock::jump::JumpClock;
 use slot_clock::clock::SlotClock;
 use slot_clock::step::StepClock;

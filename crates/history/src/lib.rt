@@ -1,4 +1,7 @@
 // A history of one link, run.
+
+#![tactic(auto)]
+
 pub mod clerk;
 mod ending;
 mod hand;

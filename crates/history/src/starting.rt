@@ -1,7 +1,7 @@
 // Commands before an accepted link, and at a draft.
 ghost use Rattle.tick_machine.specs.Machine.{Config};
 ghost use Rattle.link.specs.Drafting.{Drafts};
-ghost use Rattle.history_reply.specs.Stages.{before, draft as at-draft-of, obey};
+ghost use Rattle.history_reply.specs.Stages.{before, draft as at_draft_of, obey};
 ghost use Rattle.history_lines.specs.Clerks.{Obeyed};
 ghost use Rattle.history.specs.Standing.{Stands, Went};
 
@@ -56,7 +56,7 @@ pub fn draw_up<W: WaitingLine, S: SlotClock>(
     n: u64,
     command: Command,
 ) -> (LinkClerk<W, S>, Reply)
-    ensures { (c : Config) → Drafts W.WaitingLine.pairs W.WaitingLine.capacity c draft → Went W.WaitingLine.pairs W.WaitingLine.capacity S.SlotClock.state (obey n (at-draft-of c) command) result.0 result.1 }
+    ensures { (c : Config) → Drafts W.WaitingLine.pairs W.WaitingLine.capacity c draft → Went W.WaitingLine.pairs W.WaitingLine.capacity S.SlotClock.state (obey n (at_draft_of c) command) result.0 result.1 }
 {
     match command {
         Command::Add(weight) => {

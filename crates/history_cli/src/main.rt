@@ -1,5 +1,8 @@
 // Reads a history from standard input and prints what the link answered. The first argument chooses the link's parts: heap-step, heap-jump,
 // sorted-step or sorted-jump. Without it they are a heap and the jumping clock.
+
+#![tactic(auto)]
+
 mod parts;
 mod printed;
 

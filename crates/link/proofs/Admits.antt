@@ -1,8 +1,7 @@
 -- The checks of an arrival. Assumes nothing.
-use Rattle.std.proofs.Common.{◌≡◌, ℕ, ◌+◌, ◌<◌, ◌≤◌, Bool, true, false, cond, ltb, leb, List, map, length, Ok, Err, vec_items, vec_len, Result, sym, refl, ap, ◌∙◌, arith}
+use Rattle.std.proofs.Common.{◌≡◌, ℕ, ◌+◌, ◌<◌, ◌≤◌, Bool, true, false, cond, ltb, leb, List, length, Ok, Err, vec_len, Result, sym, refl, ap, ◌∙◌, arith}
 use lib.ListN.{length-map}
 use Rattle.std.proofs.lemmas.Bool.{lt-ltb, le-ltb, le-leb, cond-true, cond-false}
-use Rattle.tick_machine.specs.declared.packet.Line.{Line}
 use Rattle.tick_machine.specs.declared.refusal.LineRefusal.{LineRefusal}
 use Rattle.tick_machine.specs.declared.refusal.LineRefusal.TheVariants.{Full}
 use Rattle.tick_machine.specs.declared.refusal.Refusal.{Refusal}
@@ -14,7 +13,7 @@ use Rattle.waiting_line.specs.Lines.{room_answer}
 use Rattle.slot_clock.specs.State.{SlotState}
 use Rattle.link.specs.declared.link.Link.{Link}
 use Rattle.link.specs.Admission.{admission}
-use Rattle.link.specs.Shown.{pair, by_number, Shown}
+use Rattle.link.specs.Shown.{pair, Shown}
 use Rattle.link.proofs.Tables.{by_number_length}
 
 -- a packet that is admitted is offered its number, stamp and latest tick

@@ -1,5 +1,5 @@
 -- An arrival goes as promised. Assumes nothing.
-use Rattle.std.proofs.Common.{◌≡◌, ℕ, zero, suc, ◌+◌, ◌-◌, ◌*◌, ◌^◌, ◌<◌, ◌≤◌, min, max, Bool, true, false, cond, ◌&&◌, ◌||◌, eqb, ltb, leb, List, [], ◌∷◌, ◌++◌, map, length, get_or, is_ok, Ok, Err, vec_items, vec_len, Result, sym, refl, ap, ◌∙◌, subst, arith}
+use Rattle.std.proofs.Common.{◌≡◌, ℕ, zero, suc, ◌+◌, ◌-◌, ◌^◌, ◌<◌, ◌≤◌, min, max, false, cond, ◌&&◌, eqb, ltb, leb, List, [], ◌∷◌, ◌++◌, map, length, get_or, is_ok, Ok, Err, vec_items, vec_len, Result, sym, refl, ap, ◌∙◌, subst, arith}
 use Rattle.std.proofs.lemmas.Bool.Decides.{nat_tests}
 use Rattle.std.proofs.lemmas.Bool.{cond_both, cond-true, cond-false, lt-ltb, le-leb, ne_eqb, and_from, or_from}
 use Rattle.tick_machine.specs.declared.packet.Packet.{Packet}
@@ -9,14 +9,14 @@ use Rattle.tick_machine.specs.declared.call.Call.{Call}
 use Rattle.tick_machine.specs.declared.call.Call.TheVariants.{Arrive}
 use Rattle.tick_machine.specs.Lists.{total, only, All, none, more, Rising, insert}
 use Rattle.tick_machine.specs.Slots.{owner}
-use Rattle.tick_machine.specs.Round.{Round, granted, stamp, add, owed_to}
+use Rattle.tick_machine.specs.Round.{Round, granted, stamp, add}
 use Rattle.tick_machine.specs.Owed.{from}
 use Rattle.tick_machine.specs.Machine.{Config, Machine, raise, packet, accept, latest_tick}
 use Rattle.tick_machine.specs.Life.{arrival, offer, told, arrived, accepted, steps, if_granted, after}
 use Rattle.tick_machine.specs.Fit.{Fit}
 use Rattle.tick_machine.specs.Books.{StaysSmall, WellKept}
 use Rattle.tick_machine.proofs.Lists.{head, tail, all_map, length_insert_all}
-use Rattle.tick_machine.proofs.Slots.{Fresh, fresh}
+use Rattle.tick_machine.proofs.Slots.{fresh}
 use Rattle.tick_machine.proofs.Fits.{drafted_fits}
 use Rattle.tick_machine.proofs.Histories.{Admitted, admitted}
 use Rattle.waiting_line.specs.declared.pair.Pair.{Pair}
@@ -26,7 +26,7 @@ use Rattle.slot_clock.specs.State.{SlotState, state_of, round_of}
 use Rattle.slot_clock.specs.Calls.{owed_in_all, add_answer, add_left, add_after}
 use Rattle.link.specs.declared.link.Link.{Link}
 use Rattle.link.specs.Admission.{admission}
-use Rattle.link.specs.Shown.{pair, by_number, Shown}
+use Rattle.link.specs.Shown.{pair, Shown}
 use Rattle.link.specs.Promise.{Led, Goes}
 use Rattle.link.proofs.Tables.{by_number_accepted}
 use Rattle.link.proofs.Admits.{arrival_offered, arrival_refused, many_waiting}

@@ -1,11 +1,8 @@
 -- A draft keeps its limits, and shows the configuration that its calls lead to. Assumes nothing.
-use Rattle.std.proofs.Common.{◌≡◌, ℕ, ◌+◌, ◌<◌, ◌≤◌, Bool, true, cond, ◌&&◌, ltb, leb, List, [], ◌∷◌, ◌++◌, length, replicate, Ok, Err, vec_items, vec_len, Result, sym, refl, ap, ◌∙◌, subst, arith}
+use Rattle.std.proofs.Common.{◌≡◌, ℕ, ◌+◌, ◌<◌, ◌≤◌, true, ltb, leb, List, [], ◌∷◌, ◌++◌, length, replicate, Ok, vec_items, vec_len, sym, refl, ap, ◌∙◌, arith}
 use lib.ListN.{length-replicate}
 use Rattle.std.proofs.lemmas.List.{replicate_more}
-use Rattle.std.proofs.lemmas.Bool.{lt-ltb, le-leb, and_from, and_parts, cond-true, ltb-true}
-use Rattle.tick_machine.specs.declared.refusal.Refusal.{Refusal}
-use Rattle.tick_machine.specs.declared.refusal.Refusal.TheVariants.{Weight, TooManySessions, TooMuchWeight}
-use Rattle.tick_machine.specs.Lists.{total}
+use Rattle.std.proofs.lemmas.Bool.{lt-ltb, le-leb, and_from, and_parts, cond-true}
 use Rattle.tick_machine.specs.Slots.{round_length}
 use Rattle.tick_machine.specs.Machine.{Config}
 use Rattle.tick_machine.specs.Life.{adding, with_session, added, drafted}

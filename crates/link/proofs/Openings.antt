@@ -1,13 +1,12 @@
 -- An opening goes as promised. Assumes nothing.
-use Rattle.std.proofs.Common.{◌≡◌, ℕ, zero, suc, ◌<◌, ◌≤◌, Bool, true, cond, ◌&&◌, ltb, leb, List, [], ◌∷◌, map, length, replicate, Ok, Err, vec_items, vec_len, Result, sym, refl, ap, ◌∙◌, subst, arith}
+use Rattle.std.proofs.Common.{◌≡◌, ℕ, zero, suc, ◌≤◌, true, ◌&&◌, ltb, leb, List, [], ◌∷◌, map, length, replicate, Ok, vec_items, vec_len, sym, refl, ap, ◌∙◌, arith}
 use lib.ListN.{length-replicate}
 use Rattle.std.proofs.lemmas.Bool.{lt-ltb, le-leb, and_from, cond-true}
 use Rattle.tick_machine.specs.Slots.{round_length}
 use Rattle.tick_machine.specs.Round.{fresh_round}
-use Rattle.tick_machine.specs.Machine.{Config, opened}
+use Rattle.tick_machine.specs.Machine.{Config}
 use Rattle.tick_machine.proofs.Stands.{law}
 use Rattle.waiting_line.specs.declared.pair.Pair.{Pair}
-use Rattle.slot_clock.specs.declared.refusal.ClockRefusal.{ClockRefusal}
 use Rattle.slot_clock.specs.State.{SlotState, state_of}
 use Rattle.slot_clock.specs.Calls.{no_zero, made_answer}
 use Rattle.link.specs.declared.session.Session.{Session}

@@ -1,22 +1,20 @@
 -- What holds of the machine that a history leads to. Assumes nothing.
-use Rattle.std.proofs.Common.{◌≡◌, ℕ, zero, suc, ◌+◌, ◌-◌, ◌<◌, ◌≤◌, Bool, true, cond, eqb, ltb, leb, List, [], ◌∷◌, length, get_or, replicate, Ok, Err, Result, sym, refl, ap, ◌∙◌, subst, arith}
+use Rattle.std.proofs.Common.{◌≡◌, ℕ, zero, suc, ◌+◌, ◌-◌, ◌<◌, ◌≤◌, eqb, leb, List, [], ◌∷◌, length, replicate, Ok, Err, refl, ap, ◌∙◌, subst, arith}
 use Rattle.std.proofs.lemmas.Bool.Decides.{nat_tests}
 use Rattle.std.proofs.lemmas.Bool.{eq-eqb, cond-true, cond-false, le-leb, lt-leb}
-use Rattle.tick_machine.specs.declared.refusal.Refusal.{Refusal}
 use Rattle.tick_machine.specs.declared.refusal.Refusal.TheVariants.{TickPassed, PastTheEnd}
 use Rattle.tick_machine.specs.declared.call.Call.{Call}
 use Rattle.tick_machine.specs.declared.call.Call.TheVariants.{MoveTo}
 use Rattle.tick_machine.specs.declared.packet.Packet.{Packet}
 use Rattle.tick_machine.specs.Lists.{total, only, All, none, more}
 use Rattle.tick_machine.specs.Machine.{Config, Machine, ticks}
-use Rattle.tick_machine.specs.Life.{last_tick, move, Event, ticked, step, steps, if_granted, happens, after}
-use Rattle.tick_machine.specs.Law.{On, idle, busy, Unsent, Drafted, Lawful}
-use Rattle.tick_machine.specs.Books.{OwedByNext, WellKept, StaysSmall, FiguresAddUp, OfEveryMachine}
+use Rattle.tick_machine.specs.Life.{last_tick, move, ticked, step, steps, if_granted, after}
+use Rattle.tick_machine.specs.Law.{Drafted, Lawful}
+use Rattle.tick_machine.specs.Books.{OwedByNext, WellKept, StaysSmall, FiguresAddUp}
 use Rattle.tick_machine.proofs.Lists.{all_map}
 use Rattle.tick_machine.proofs.Work.{unsent_map}
 use Rattle.tick_machine.proofs.Stands.{law, owed_by_next, is_well_kept, all_stays_small, figures_do_add_up, after_calls}
 use Rattle.link.specs.Orderly.{Apart, Orderly}
-use Rattle.link.proofs.Stretches.{ticks_clock}
 
 abbrev copies : ℕ → List Packet → ℕ
 copies k ws = total (λ (p : Packet). only (eqb p.number k) 1) ws

@@ -1,35 +1,31 @@
 -- Figures and totals are read as promised. Assumes nothing.
-use Rattle.std.proofs.Common.{◌≡◌, ℕ, zero, suc, ◌+◌, ◌-◌, ◌^◌, ◌<◌, ◌≤◌, min, Bool, true, false, cond, eqb, ltb, List, [], ◌∷◌, ◌++◌, map, length, get_or, take, ℤ, pos, ◌+ℤ◌, ◌-ℤ◌, ◌<ℤ◌, Ok, Err, vec_items, vec_len, Result, sym, refl, ap, ◌∙◌, subst, arith}
+use Rattle.std.proofs.Common.{◌≡◌, ℕ, zero, suc, ◌+◌, ◌-◌, ◌^◌, ◌<◌, ◌≤◌, min, eqb, ltb, List, [], ◌∷◌, map, length, get_or, take, ℤ, pos, ◌+ℤ◌, ◌-ℤ◌, ◌<ℤ◌, Ok, Err, vec_items, vec_len, sym, refl, ap, ◌∙◌, arith}
 use Rattle.std.proofs.lemmas.Bool.Decides.{nat_tests}
 use Rattle.std.proofs.lemmas.Int.{ints}
-use Rattle.std.proofs.lemmas.List.{take_more, get_or-map, get_or_read}
+use Rattle.std.proofs.lemmas.List.{take_more, get_or-map}
 use Rattle.std.proofs.lemmas.Bool.{lt-ltb, le-ltb, cond-true, cond-false}
 use Rattle.tick_machine.specs.declared.packet.Packet.{Packet}
-use Rattle.tick_machine.specs.declared.refusal.Refusal.{Refusal}
 use Rattle.tick_machine.specs.declared.refusal.Refusal.TheVariants.{UnknownSession}
 use Rattle.tick_machine.specs.declared.call.Call.{Call}
 use Rattle.tick_machine.specs.declared.call.Call.TheVariants.{AskFigures, AskTotals}
-use Rattle.tick_machine.specs.declared.call.Figures.{Figures}
 use Rattle.tick_machine.specs.declared.call.Totals.{Totals}
 use Rattle.tick_machine.specs.declared.call.Answer.TheVariants.{FiguresAre, TotalsAre}
 use Rattle.tick_machine.specs.Lists.{total, only}
 use Rattle.tick_machine.specs.Round.{owed_to}
 use Rattle.tick_machine.specs.Owed.{from}
 use Rattle.tick_machine.specs.Machine.{Config, Machine}
-use Rattle.tick_machine.specs.Life.{figures_of, figures, totals, on_line, told, after, events}
+use Rattle.tick_machine.specs.Life.{figures_of, on_line, told, after, events}
 use Rattle.tick_machine.specs.Story.{story}
-use Rattle.tick_machine.specs.Law.{Law, served_of, sent_of}
-use Rattle.tick_machine.specs.Books.{FiguresAddUp, FiguresTold, unsent_of}
+use Rattle.tick_machine.specs.Law.{served_of, sent_of}
 use Rattle.tick_machine.proofs.Places.{total_push}
 use Rattle.tick_machine.proofs.Histories.{story_tells}
 use Rattle.tick_machine.proofs.Stands.{law, figures_are_told}
 use Rattle.waiting_line.specs.declared.pair.Pair.{Pair}
 use Rattle.slot_clock.specs.declared.refusal.ClockRefusal.{ClockRefusal}
-use Rattle.slot_clock.specs.State.{SlotState, state_of}
+use Rattle.slot_clock.specs.State.{SlotState}
 use Rattle.slot_clock.specs.Calls.{owed_answer}
 use Rattle.link.specs.declared.link.Link.{Link}
 use Rattle.link.specs.declared.session.Session.{Session}
-use Rattle.link.specs.Shown.{by_number, Shown}
 use Rattle.link.specs.Promise.{longest, Led, Goes}
 use Rattle.link.proofs.Tables.{total_by_number}
 use Rattle.link.proofs.Admits.{many_waiting, many_left, many_out, many_sending}

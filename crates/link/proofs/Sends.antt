@@ -1,5 +1,5 @@
 -- What a link shows when bytes of the packet on its line are sent. Assumes nothing.
-use Rattle.std.proofs.Common.{◌≡◌, ℕ, ◌+◌, ◌-◌, ◌^◌, ◌<◌, ◌≤◌, List, [], ◌∷◌, ◌++◌, map, length, get_or, vec_items, vec_len, sym, refl, ap, ◌∙◌, subst, arith}
+use Rattle.std.proofs.Common.{◌≡◌, ℕ, ◌+◌, ◌-◌, ◌^◌, ◌<◌, ◌≤◌, List, [], ◌∷◌, ◌++◌, map, get_or, vec_items, vec_len, sym, ap, ◌∙◌, subst, arith}
 use Rattle.tick_machine.specs.declared.packet.Packet.{Packet}
 use Rattle.tick_machine.specs.declared.packet.Departed.{Departed}
 use Rattle.tick_machine.specs.declared.packet.Line.{Line}
@@ -7,11 +7,10 @@ use Rattle.tick_machine.specs.declared.packet.Line.TheVariants.{Free as free, Se
 use Rattle.tick_machine.specs.Sender.{onward, leaving}
 use Rattle.tick_machine.specs.Desk.{joined}
 use Rattle.tick_machine.specs.Machine.{Config, Machine, raise}
-use Rattle.tick_machine.specs.Law.{On, idle, busy}
+use Rattle.tick_machine.specs.Law.{On, busy}
 use Rattle.waiting_line.specs.declared.pair.Pair.{Pair}
 use Rattle.slot_clock.specs.State.{SlotState}
 use Rattle.link.specs.declared.link.Link.{Link}
-use Rattle.link.specs.declared.session.Session.{Session}
 use Rattle.link.specs.Stretch.{line_after, leaver_after, sent_after, send_bytes, Carries}
 use Rattle.link.specs.Shown.{Shown}
 use Rattle.link.proofs.Stretches.{onward_some, leaving_some}

@@ -1,5 +1,5 @@
 -- Collections and settlements go as promised. Assumes nothing.
-use Rattle.std.proofs.Common.{◌≡◌, ℕ, zero, suc, ◌+◌, ◌<◌, ◌≤◌, min, Bool, true, false, cond, ◌||◌, eqb, List, [], ◌∷◌, ◌++◌, map, length, get_or, Some, None, Ok, Err, vec_items, vec_len, Result, sym, refl, ap, ◌∙◌, subst, arith}
+use Rattle.std.proofs.Common.{◌≡◌, ℕ, zero, suc, ◌+◌, ◌<◌, ◌≤◌, min, true, false, eqb, List, [], ◌∷◌, ◌++◌, map, length, get_or, Some, None, Ok, Err, vec_items, vec_len, Result, sym, refl, ap, ◌∙◌, subst, arith}
 use Rattle.std.proofs.lemmas.Bool.{eq-eqb, ne_eqb, or_left, or_right, or_from, cond-true, cond-false}
 use Rattle.std.specs.List.{remove}
 use Rattle.tick_machine.specs.declared.packet.Departed.{Departed}
@@ -7,10 +7,10 @@ use Rattle.tick_machine.specs.declared.refusal.Refusal.{Refusal}
 use Rattle.tick_machine.specs.declared.refusal.Refusal.TheVariants.{OtherLink, NotOut}
 use Rattle.tick_machine.specs.declared.call.Call.{Call}
 use Rattle.tick_machine.specs.declared.call.Call.TheVariants.{Collect, File, Return}
-use Rattle.tick_machine.specs.declared.call.Answer.TheVariants.{Collected, Filed, Returned, Refused}
+use Rattle.tick_machine.specs.declared.call.Answer.TheVariants.{Collected, Filed, Returned}
 use Rattle.tick_machine.specs.Desk.{Desk, first, rest, handed, slip, among, without, hand_out, file, return}
 use Rattle.tick_machine.specs.Machine.{Config, Machine, with_desk}
-use Rattle.tick_machine.specs.Life.{settlement, slip_of, told, Event, filed, returned, steps, if_granted, after}
+use Rattle.tick_machine.specs.Life.{settlement, slip_of, told, filed, returned, steps, if_granted, after}
 use Rattle.tick_machine.specs.Books.{TotalsAddUp}
 use Rattle.tick_machine.proofs.Stands.{totals_do_add_up, after_calls}
 use Rattle.waiting_line.specs.declared.pair.Pair.{Pair}

@@ -1,13 +1,12 @@
 -- A stretch of ticks at once is those ticks one by one. Assumes nothing.
-use Rattle.std.proofs.Common.{◌≡◌, ℕ, zero, suc, ◌+◌, ◌-◌, ◌<◌, ◌≤◌, List, [], ◌∷◌, ◌++◌, length, get_or, set, Some, None, Option, sym, refl, ap, ◌∙◌, subst, add-suc, arith, get_or-set_same}
-use Rattle.std.proofs.lemmas.List.{set-get_or, set-set}
+use Rattle.std.proofs.Common.{◌≡◌, ℕ, zero, suc, ◌+◌, ◌-◌, ◌<◌, ◌≤◌, List, [], ◌∷◌, set, None, sym, refl, ap, ◌∙◌, add-suc, arith}
+use Rattle.std.proofs.lemmas.List.{set-get_or}
 use Rattle.tick_machine.specs.declared.packet.Packet.{Packet}
-use Rattle.tick_machine.specs.declared.packet.Departed.{Departed}
 use Rattle.tick_machine.specs.declared.packet.Line.{Line}
 use Rattle.tick_machine.specs.declared.packet.Line.TheVariants.{Free as free, Sending as sending}
 use Rattle.tick_machine.specs.Round.{round_ticks}
-use Rattle.tick_machine.specs.Sender.{Sender, load, onward, leaving, send}
-use Rattle.tick_machine.specs.Desk.{Desk, depart, joined}
+use Rattle.tick_machine.specs.Sender.{onward, leaving, send}
+use Rattle.tick_machine.specs.Desk.{depart}
 use Rattle.tick_machine.specs.Machine.{Config, Machine, raise, tick, ticks}
 use Rattle.link.specs.Stretch.{loaded, spent, line_after, leaver_after, sent_after, send_bytes}
 

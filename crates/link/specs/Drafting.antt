@@ -1,5 +1,5 @@
 -- What a draft shows of a configuration, and what its calls promise. Assumes nothing.
-use Rattle.std.specs.Prelude.{◌≡◌, ℕ, List, [], is_ok, Ok, Err, vec_items, Result}
+use Rattle.std.specs.Prelude.{◌≡◌, ℕ, List, [], Ok, Err, vec_items, Result}
 use Rattle.waiting_line.specs.declared.pair.Pair.{Pair}
 use Rattle.slot_clock.specs.State.{SlotState}
 use Rattle.tick_machine.specs.declared.refusal.Refusal.{Refusal}

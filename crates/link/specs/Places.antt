@@ -1,5 +1,5 @@
 -- Where a number first stands in a list of things that have one. Assumes nothing.
-use Rattle.std.specs.Prelude.{◌≡◌, ℕ, ◌<◌, List, [], ◌∷◌, length, ◌≢◌, slice_index_or}
+use Rattle.std.specs.Prelude.{◌≡◌, ℕ, ◌<◌, List, length, ◌≢◌, slice_index_or}
 use Rattle.tick_machine.specs.declared.packet.Packet.{Packet}
 
 -- what has a number, and what stands past a list's end

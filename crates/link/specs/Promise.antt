@@ -1,5 +1,5 @@
 -- What the public calls of a link promise, for every history that led to it. Assumes nothing.
-use Rattle.std.specs.Prelude.{◌≡◌, ℕ, ◌+◌, ◌<◌, ◌≤◌, Bool, true, false, List, [], ◌∷◌, ℤ, pos, ◌+ℤ◌, ◌<ℤ◌, Ok, Err, Option, Result}
+use Rattle.std.specs.Prelude.{◌≡◌, ℕ, ◌<◌, Bool, true, false, List, ◌∷◌, pos, ◌+ℤ◌, ◌<ℤ◌, Ok, Err, Option, Result}
 use Rattle.std.specs.Option.{option_map}
 use Rattle.waiting_line.specs.declared.pair.Pair.{Pair}
 use Rattle.slot_clock.specs.State.{SlotState}
@@ -8,7 +8,7 @@ use Rattle.tick_machine.specs.declared.call.Call.{Call}
 use Rattle.tick_machine.specs.declared.call.Figures.{Figures}
 use Rattle.tick_machine.specs.declared.call.Answer.{Answer}
 use Rattle.tick_machine.specs.declared.call.Answer.TheVariants.{Made, Added, Opened, Accepted, Moved, Collected, Filed, Returned, FiguresAre, TotalsAre, Refused}
-use Rattle.tick_machine.specs.Machine.{Config, Machine}
+use Rattle.tick_machine.specs.Machine.{Config}
 use Rattle.tick_machine.specs.Life.{answer, after, events}
 use Rattle.tick_machine.specs.Story.{story}
 use Rattle.tick_machine.specs.Law.{Drafted, Lawful}

@@ -1,5 +1,5 @@
 -- What a link shows of the tick machine, given what its waiting line and its slot clock mean. Assumes nothing.
-use Rattle.std.specs.Prelude.{◌≡◌, ℕ, ◌<◌, ◌≤◌, List, [], ◌∷◌, map, length, vec_items, vec_len}
+use Rattle.std.specs.Prelude.{◌≡◌, ℕ, List, [], ◌∷◌, map, length, vec_items, vec_len}
 use Rattle.waiting_line.specs.declared.pair.Pair.{Pair}
 use Rattle.slot_clock.specs.State.{SlotState, state_of}
 use Rattle.tick_machine.specs.Lists.{insert}

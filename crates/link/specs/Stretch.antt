@@ -1,10 +1,10 @@
 -- What a stretch of ticks does at once. Assumes nothing.
-use Rattle.std.specs.Prelude.{ℕ, ◌+◌, ◌-◌, ◌^◌, ◌<◌, min, List, length, Some, None, Option, slice_index}
+use Rattle.std.specs.Prelude.{ℕ, ◌+◌, ◌-◌, ◌^◌, ◌<◌, min, List, length, None, Option, slice_index}
 use Rattle.tick_machine.specs.declared.packet.Departed.{Departed}
 use Rattle.tick_machine.specs.declared.packet.Line.{Line}
 use Rattle.tick_machine.specs.declared.packet.Line.TheVariants.{Free as free, Sending as sending}
 use Rattle.tick_machine.specs.Round.{round_ticks}
-use Rattle.tick_machine.specs.Sender.{Sender, load, onward, leaving}
+use Rattle.tick_machine.specs.Sender.{load, onward, leaving}
 use Rattle.tick_machine.specs.Desk.{depart}
 use Rattle.tick_machine.specs.Machine.{Config, Machine, raise, ticks}
 use Rattle.tick_machine.specs.Law.{On}

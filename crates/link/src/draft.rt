@@ -5,10 +5,9 @@ ghost use Rattle.tick_machine.specs.Slots.{round_length};
 
 use crate::session::Session;
 use tick_machine::packet::{Departed, Packet};
-use waiting_line::line::WaitingLine;
 
 #[derive(Drop)]
-pub struct Draft<W: WaitingLine> {
+pub struct Draft<W> {
     waiting: W,
     number: u64,
     largest: u64,

@@ -1,4 +1,7 @@
 // The dispatcher of one line: a draft that takes sessions, the open link, and slips.
+
+#![tactic(auto)]
+
 pub mod answers;
 pub mod draft;
 pub mod error;

@@ -4,13 +4,11 @@ ghost use Rattle.tick_machine.specs.Life.{on_line};
 ghost use Rattle.link.specs.Busy.{at_work};
 
 use crate::session::Session;
-use slot_clock::clock::SlotClock;
 use tick_machine::packet::{Departed, Line, Packet};
-use waiting_line::line::WaitingLine;
 
 // Its memory was had when its draft was made: no call asks for more.
 #[derive(Drop)]
-pub struct Link<W: WaitingLine, S: SlotClock> {
+pub struct Link<W, S> {
     waiting: W,
     slots: S,
     number: u64,

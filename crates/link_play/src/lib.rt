@@ -1,4 +1,7 @@
 // Plays a list of steps on a link over any waiting line and any slot clock, and spends every slip on the way.
+
+#![tactic(auto)]
+
 pub mod play;
 mod spending;
 pub mod step;

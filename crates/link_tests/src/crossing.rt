@@ -74,6 +74,7 @@ fn crossed<W: WaitingLine + Drop, S: SlotClock + Drop>(
 
 fn refused_elsewhere<W: WaitingLine + Drop, S: SlotClock + Drop>(
     rt: &impl Abort,
+    pair: &str,
     heap: Global,
 ) -> Result<(), Fail> {
     let none = Totals {
@@ -87,11 +88,13 @@ fn refused_elsewhere<W: WaitingLine + Drop, S: SlotClock + Drop>(
     let filed = Totals { filed: 1, ..none };
     assert_eq!(rt;
         crossed::<W, S>(heap, 7, 8),
-        Some((Refusal::OtherLink, 0, filed, none))
+        Some((Refusal::OtherLink, 0, filed, none)),
+        "{pair}"
     );
     assert_eq!(rt;
         crossed::<W, S>(heap, 7, 7),
-        Some((Refusal::NotOut, 0, filed, none))
+        Some((Refusal::NotOut, 0, filed, none)),
+        "{pair}"
     );
     Ok(())
 }
@@ -99,8 +102,8 @@ fn refused_elsewhere<W: WaitingLine + Drop, S: SlotClock + Drop>(
 #[test]
 fn slips_of_another_link(rt: HostRuntime) -> Result<(), Fail> {
     let heap = rt.alloc();
-    refused_elsewhere::<HeapLine, StepClock>(&rt, heap).note("heap, step")?;
-    refused_elsewhere::<HeapLine, JumpClock>(&rt, heap).note("heap, jump")?;
-    refused_elsewhere::<SortedLine, StepClock>(&rt, heap).note("sorted, step")?;
-    refused_elsewhere::<SortedLine, JumpClock>(&rt, heap).note("sorted, jump")
+    refused_elsewhere::<HeapLine, StepClock>(&rt, "heap, step", heap)?;
+    refused_elsewhere::<HeapLine, JumpClock>(&rt, "heap, jump", heap)?;
+    refused_elsewhere::<SortedLine, StepClock>(&rt, "sorted, step", heap)?;
+    refused_elsewhere::<SortedLine, JumpClock>(&rt, "sorted, jump", heap)
 }

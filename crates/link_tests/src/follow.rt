@@ -62,21 +62,21 @@ pub fn totals(
 }
 
 // The last answers are those of the rows.
-fn told(rt: &impl Abort, answers: &[Answer], rows: &[(Step, Answer)]) {
-    assert!(rt; answers.len() >= rows.len());
+fn told(rt: &impl Abort, pair: &str, answers: &[Answer], rows: &[(Step, Answer)]) {
+    assert!(rt; answers.len() >= rows.len(), "{pair}");
     let before = answers.len() - rows.len();
     for (at, row) in rows.iter().enumerate() {
         assert_eq!(rt;
             answers.get(before.saturating_add(at)).copied(),
             Some(row.1),
-            "{}",
-            at
+            "{pair}, at {at}"
         );
     }
 }
 
 fn follow<W: WaitingLine + Drop, S: SlotClock + Drop>(
     rt: &impl Abort,
+    pair: &str,
     heap: Global,
     making: Making,
     weights: &[u64],
@@ -89,9 +89,10 @@ fn follow<W: WaitingLine + Drop, S: SlotClock + Drop>(
     let answers = answers_of::<W, S>(heap, making, weights, steps.as_slice())?;
     assert_eq!(rt;
         answers.len(),
-        weights.len().saturating_add(rows.len()).saturating_add(2)
+        weights.len().saturating_add(rows.len()).saturating_add(2),
+        "{pair}"
     );
-    told(rt, answers.as_slice(), rows);
+    told(rt, pair, answers.as_slice(), rows);
     Ok(())
 }
 
@@ -103,23 +104,24 @@ pub fn on_all_four(
     weights: &[u64],
     rows: &[(Step, Answer)],
 ) -> Result<(), Fail> {
-    follow::<HeapLine, StepClock>(rt, heap, making, weights, rows).note("heap, step")?;
-    follow::<HeapLine, JumpClock>(rt, heap, making, weights, rows).note("heap, jump")?;
-    follow::<SortedLine, StepClock>(rt, heap, making, weights, rows).note("sorted, step")?;
-    follow::<SortedLine, JumpClock>(rt, heap, making, weights, rows).note("sorted, jump")
+    follow::<HeapLine, StepClock>(rt, "heap, step", heap, making, weights, rows)?;
+    follow::<HeapLine, JumpClock>(rt, "heap, jump", heap, making, weights, rows)?;
+    follow::<SortedLine, StepClock>(rt, "sorted, step", heap, making, weights, rows)?;
+    follow::<SortedLine, JumpClock>(rt, "sorted, jump", heap, making, weights, rows)
 }
 
 fn drafted<W: WaitingLine + Drop, S: SlotClock + Drop>(
     rt: &impl Abort,
+    pair: &str,
     heap: Global,
     making: Making,
     weights: &[u64],
     expected: &[Answer],
 ) -> Result<(), Fail> {
     let answers = answers_of::<W, S>(heap, making, weights, &[])?;
-    assert_eq!(rt; answers.len(), expected.len());
+    assert_eq!(rt; answers.len(), expected.len(), "{pair}");
     for (at, answer) in expected.iter().enumerate() {
-        assert_eq!(rt; answers.get(at).copied(), Some(*answer), "{}", at);
+        assert_eq!(rt; answers.get(at).copied(), Some(*answer), "{pair}, at {at}");
     }
     Ok(())
 }
@@ -132,8 +134,8 @@ pub fn drafted_on_all_four(
     weights: &[u64],
     expected: &[Answer],
 ) -> Result<(), Fail> {
-    drafted::<HeapLine, StepClock>(rt, heap, making, weights, expected).note("heap, step")?;
-    drafted::<HeapLine, JumpClock>(rt, heap, making, weights, expected).note("heap, jump")?;
-    drafted::<SortedLine, StepClock>(rt, heap, making, weights, expected).note("sorted, step")?;
-    drafted::<SortedLine, JumpClock>(rt, heap, making, weights, expected).note("sorted, jump")
+    drafted::<HeapLine, StepClock>(rt, "heap, step", heap, making, weights, expected)?;
+    drafted::<HeapLine, JumpClock>(rt, "heap, jump", heap, making, weights, expected)?;
+    drafted::<SortedLine, StepClock>(rt, "sorted, step", heap, making, weights, expected)?;
+    drafted::<SortedLine, JumpClock>(rt, "sorted, jump", heap, making, weights, expected)
 }

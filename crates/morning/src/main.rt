@@ -1,5 +1,8 @@
 // A morning on one line: an importer with long messages and a large weight beside forwarders with short entries and small ones. It is played over
 // each pair of a waiting line and a slot clock; what the first pair answered is printed, and then whether the other three answered the same.
+
+#![tactic(auto)]
+
 mod table;
 mod words;
 

@@ -1,4 +1,7 @@
 // Slot clocks: they do the round server's work with a few numbers.
+
+#![tactic(auto)]
+
 pub mod calls;
 pub mod clock;
 pub mod held;

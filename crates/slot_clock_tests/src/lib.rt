@@ -1,4 +1,7 @@
 // Both slot clocks through the same rows, and side by side on drawn steps.
+
+#![tactic(auto)]
+
 #[cfg(test)]
 mod step;
 #[cfg(test)]

@@ -5,6 +5,9 @@
 //   put STAMP        a packet whose stamp is given by hand waits
 // After each step V and the bytes owed to each session are told, at the end the packets in the order of sending, and whether
 // both clocks and both lines always said the same. A line that is none of these is told, and the rest goes on.
+
+#![tactic(auto)]
+
 mod both;
 mod playing;
 mod reading;

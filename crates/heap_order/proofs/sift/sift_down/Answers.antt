@@ -7,17 +7,17 @@ pub loop-i-preserved : goal.loop-i-preserved
 loop-i-preserved g c =
     let laws = g.met.T.TotalOrder in
     let said = c.swap.ensures in
-    let best = c.least-child-child.ensures in
+    let best = c.least_child-child.ensures in
     let s = swap_of said.len said.by_index.0 said.by_index.1 said.by_index.2 in (
       search rules,
       IsPermutation-trans _ _ _ c.loop-i.invariant.1 said.permutation,
-      sinks g.T.TotalOrder.before laws.total laws.transitive _ _ c.loop-i.i c.least-child-child.result best.child.0 best.child.2 best.child.1 s best.least c.if-not-precedes-at.ensures c.loop-i.invariant.2,
+      sinks g.T.TotalOrder.before laws.total laws.transitive _ _ c.loop-i.i c.least_child-child.result best.child.0 best.child.2 best.child.1 s best.least c.if-not-precedes_at.ensures c.loop-i.invariant.2,
     )
 
-pub returns-then-not-precedes-at : goal.returns-then-not-precedes-at
-returns-then-not-precedes-at g c =
+pub returns-then-not-precedes_at : goal.returns-then-not-precedes_at
+returns-then-not-precedes_at g c =
     let laws = g.met.T.TotalOrder in
     record {
       shuffled = c.loop-i.invariant.1;
-      heaped = lies g.T.TotalOrder.before laws.total laws.transitive _ c.loop-i.i c.least-child-child.result c.least-child-child.ensures.least c.if-not-precedes-at.ensures c.loop-i.invariant.2;
+      heaped = lies g.T.TotalOrder.before laws.total laws.transitive _ c.loop-i.i c.least_child-child.result c.least_child-child.ensures.least c.if-not-precedes_at.ensures c.loop-i.invariant.2;
     }

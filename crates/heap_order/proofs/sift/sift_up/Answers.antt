@@ -14,13 +14,13 @@ loop-i-preserved g c =
       search rules,
       omega (arith, said.len),
       IsPermutation-trans _ _ _ c.loop-i.invariant.2 said.permutation,
-      rises g.T.TotalOrder.before laws.total laws.transitive _ _ i t in' s c.if-not-precedes-at.ensures c.loop-i.invariant.3,
+      rises g.T.TotalOrder.before laws.total laws.transitive _ _ i t in' s c.if-not-precedes_at.ensures c.loop-i.invariant.3,
     )
 
-pub returns-then-not-precedes-at : goal.returns-then-not-precedes-at
-returns-then-not-precedes-at g c =
+pub returns-then-not-precedes_at : goal.returns-then-not-precedes_at
+returns-then-not-precedes_at g c =
     let laws = g.met.T.TotalOrder in
     record {
       shuffled = c.loop-i.invariant.2;
-      heaped = rests g.T.TotalOrder.before laws.total laws.transitive _ c.loop-i.i c.if-not-precedes-at.ensures c.loop-i.invariant.3;
+      heaped = rests g.T.TotalOrder.before laws.total laws.transitive _ c.loop-i.i c.if-not-precedes_at.ensures c.loop-i.invariant.3;
     }

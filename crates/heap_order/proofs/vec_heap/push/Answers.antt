@@ -10,5 +10,5 @@ raise-requires g c =
     let n : length xs ≡ c.len-at.result = search rules in
     record {
       within = search rules;
-      loose = subst (λ (l : List g.row.T.Denot). Loose before l c.len-at.result) (sym c.push-reserved.ensures.items) (subst (λ (m : ℕ). Loose before (xs ++ c.args.x ∷ []) m) n (loose_push before xs c.args.x c.requires.heaped));
+      loose = subst (λ (l : List g.row.T.Denot). Loose before l c.len-at.result) (sym c.push_reserved.ensures.items) (subst (λ (m : ℕ). Loose before (xs ++ c.args.x ∷ []) m) n (loose_push before xs c.args.x c.requires.heaped));
     }

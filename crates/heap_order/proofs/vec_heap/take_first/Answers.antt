@@ -7,8 +7,8 @@ returns g c =
     let xs = vec_items c.args.v.now in
     let some : 0 < length xs = search rules in
     record {
-      value = c.swap-remove-first.ensures.value;
-      shuffled = taken xs _ _ _ some c.swap-remove-first.ensures.value c.swap-remove-first.ensures.items c.lower.ensures.shuffled;
+      value = c.swap_remove-first.ensures.value;
+      shuffled = taken xs _ _ _ some c.swap_remove-first.ensures.value c.swap_remove-first.ensures.items c.lower.ensures.shuffled;
       heaped = c.lower.ensures.heaped;
       len = search rules;
       capacity = search rules;

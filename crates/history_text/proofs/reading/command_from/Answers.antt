@@ -7,13 +7,13 @@ use Rattle.history_text.proofs.reading.command_from.Goals as goal
 pub returns-in-ok-weight : goal.returns-in-ok-weight
 returns-in-ok-weight c =
     let s0 = c.args.fields.now in
-    let s1 = c.next-number.new.self in
+    let s1 = c.next_number.new.self in
     let k1 = c.in-ok-link.ensures in
-    let s2 = c.next-number-in-Link.new.self in
+    let s2 = c.next_number-in-Link.new.self in
     let k2 = c.in-ok-largest.ensures in
-    let s3 = c.next-number-in-Link-2.new.self in
+    let s3 = c.next_number-in-Link-2.new.self in
     let k3 = c.in-ok-capacity.ensures in
-    let s4 = c.next-number-in-Link-3.new.self in
+    let s4 = c.next_number-in-Link-3.new.self in
     let k4 = c.in-ok-weight.ensures in
     let h1 = length_later (coming s0) (coming s1) 3 k1.later (search rules) in
     let h2 = length_later (coming s1) (coming s2) 2 k2.later h1 in
@@ -29,11 +29,11 @@ returns-in-ok-weight c =
 pub returns-in-ok-tag : goal.returns-in-ok-tag
 returns-in-ok-tag c =
     let s0 = c.args.fields.now in
-    let s1 = c.next-number-in-Arr.new.self in
+    let s1 = c.next_number-in-Arr.new.self in
     let k1 = c.in-ok-session.ensures in
-    let s2 = c.next-number-in-Arr-2.new.self in
+    let s2 = c.next_number-in-Arr-2.new.self in
     let k2 = c.in-ok-size.ensures in
-    let s3 = c.next-number-in-Arr-3.new.self in
+    let s3 = c.next_number-in-Arr-3.new.self in
     let k3 = c.in-ok-tag.ensures in
     let h1 = length_later (coming s0) (coming s1) 2 k1.later (search rules) in
     let h2 = length_later (coming s1) (coming s2) 1 k2.later h1 in
@@ -44,34 +44,34 @@ returns-in-ok-tag c =
     let r0 = number_before s0.place s1.place c.in-ok-session.session _ (coming s0) (coming s1) k1.value k1.later k1.place r1 in
     command_is c.args.word Arr _ _ c.in-Arr.is r0
 
-pub returns-in-ok-next-number : goal.returns-in-ok-next-number
-returns-in-ok-next-number c =
+pub returns-in-ok-next_number : goal.returns-in-ok-next_number
+returns-in-ok-next_number c =
     let s0 = c.args.fields.now in
-    let s1 = c.next-number-in-Sess.new.self in
-    let k1 = c.in-ok-next-number.ensures in
+    let s1 = c.next_number-in-Sess.new.self in
+    let k1 = c.in-ok-next_number.ensures in
     let h1 = length_later (coming s0) (coming s1) 0 k1.later (search rules) in
     let r1 = no_more s1.place (coming s1) h1 in
-    let r0 = number_before s0.place s1.place c.in-ok-next-number.field-0 _ (coming s0) (coming s1) k1.value k1.later k1.place r1 in
+    let r0 = number_before s0.place s1.place c.in-ok-next_number.field-0 _ (coming s0) (coming s1) k1.value k1.later k1.place r1 in
     command_is c.args.word Sess _ _ c.in-Sess.is r0
 
-pub returns-in-ok-next-number-2 : goal.returns-in-ok-next-number-2
-returns-in-ok-next-number-2 c =
+pub returns-in-ok-next_number-2 : goal.returns-in-ok-next_number-2
+returns-in-ok-next_number-2 c =
     let s0 = c.args.fields.now in
-    let s1 = c.next-number-in-At.new.self in
-    let k1 = c.in-ok-next-number-2.ensures in
+    let s1 = c.next_number-in-At.new.self in
+    let k1 = c.in-ok-next_number-2.ensures in
     let h1 = length_later (coming s0) (coming s1) 0 k1.later (search rules) in
     let r1 = no_more s1.place (coming s1) h1 in
-    let r0 = number_before s0.place s1.place c.in-ok-next-number-2.field-0 _ (coming s0) (coming s1) k1.value k1.later k1.place r1 in
+    let r0 = number_before s0.place s1.place c.in-ok-next_number-2.field-0 _ (coming s0) (coming s1) k1.value k1.later k1.place r1 in
     command_is c.args.word At _ _ c.in-At.is r0
 
-pub returns-in-ok-next-number-3 : goal.returns-in-ok-next-number-3
-returns-in-ok-next-number-3 c =
+pub returns-in-ok-next_number-3 : goal.returns-in-ok-next_number-3
+returns-in-ok-next_number-3 c =
     let s0 = c.args.fields.now in
-    let s1 = c.next-number-in-Figs.new.self in
-    let k1 = c.in-ok-next-number-3.ensures in
+    let s1 = c.next_number-in-Figs.new.self in
+    let k1 = c.in-ok-next_number-3.ensures in
     let h1 = length_later (coming s0) (coming s1) 0 k1.later (search rules) in
     let r1 = no_more s1.place (coming s1) h1 in
-    let r0 = number_before s0.place s1.place c.in-ok-next-number-3.field-0 _ (coming s0) (coming s1) k1.value k1.later k1.place r1 in
+    let r0 = number_before s0.place s1.place c.in-ok-next_number-3.field-0 _ (coming s0) (coming s1) k1.value k1.later k1.place r1 in
     command_is c.args.word Figs _ _ c.in-Figs.is r0
 
 pub returns-in-Open : goal.returns-in-Open

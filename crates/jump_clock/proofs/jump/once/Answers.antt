@@ -25,8 +25,8 @@ jump-to-requires c =
       few = c.requires.few;
     }
 
-pub offset-bounds-held-first : goal.offset-bounds-held-first
-offset-bounds-held-first c =
+pub offset_bounds-held-first : goal.offset_bounds-held-first
+offset_bounds-held-first c =
     let h = c.args.held.now in
     let f = first_place c.args.busy.now c.args.v (next_of h) c.requires.holds c.requires.ordered c.requires.some in
     omega (arith, f.known, nexts_are h, h.fits)
@@ -45,17 +45,17 @@ returns-then-to-held c =
     let at = (get_or b.places 0 blank).session in
     let f = first_place b c.args.v next c.requires.holds c.requires.ordered c.requires.some in
     let known : at < h.sessions = omega (arith, f.known, nexts_are h) in
-    let ys = items c.drop-first.new.self in
+    let ys = items c.drop_first.new.self in
     let e : (get_or (items b) 0 blank).end ≡ c.jump-to.result.0 = f.ends ∙ get_or-take h.sessions h.next at 0 known ∙ sym c.if-to-held.true in
     let some : 0 < length (items b) = omega (arith, items_are b, c.requires.some) in
     let hit : missed c.jump-to.result.0 next ≡ 0 = missed_none c.jump-to.result.0 next at f.known (sym f.ends ∙ e) in
     record {
       goes = same_goes (weights_of h) c.weights.result.now next c.nexts.result.now c.jump-to.result.1 c.jump-to.result.0 c.args.left c.args.v c.weights.ensures c.nexts.ensures c.jump-to.ensures.goes;
       less = c.jump-to.ensures.less;
-      ordered = c.drop-first.ensures.ordered;
-      holds = subst (λ u. Holds ys u next) e (holds_less (items b) ys c.args.v (weights_of h) next h.tops c.requires.holds c.requires.ordered some c.drop-first.ensures.lost);
+      ordered = c.drop_first.ensures.ordered;
+      holds = subst (λ u. Holds ys u next) e (holds_less (items b) ys c.args.v (weights_of h) next h.tops c.requires.holds c.requires.ordered some c.drop_first.ensures.lost);
       ahead = c.jump-to.ensures.ahead;
-      turns = omega (arith, c.drop-first.ensures.count, hit);
+      turns = omega (arith, c.drop_first.ensures.count, hit);
       rest = λ _. hit;
     }
 

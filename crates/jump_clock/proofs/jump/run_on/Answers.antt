@@ -24,8 +24,8 @@ loop-left-init c =
     let z = halfway_still h.cursor (next_of h) in
     (refl, omega arith, c.requires.ordered, c.requires.holds, omega arith, omega (arith, z), λ _. z)
 
-pub overflow-add-jumps : goal.overflow-add-jumps
-overflow-add-jumps c =
+pub overflow_add-jumps : goal.overflow_add-jumps
+overflow_add-jumps c =
     let i = c.loop-left.invariant in
     omega (arith, i.5, i.6 c.loop-left-test.true, c.args.busy.now.fits.1)
 

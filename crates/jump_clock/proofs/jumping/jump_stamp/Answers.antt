@@ -7,8 +7,8 @@ use Rattle.slot_clock.specs.Holding.{sessions_are, sound, held_from}
 use Rattle.jump_clock.proofs.Leaps.{stamp_done, alone_hit}
 use Rattle.jump_clock.proofs.jumping.jump_stamp.Goals as goal
 
-pub slot-from-requires : goal.slot-from-requires
-slot-from-requires c =
+pub slot_from-requires : goal.slot_from-requires
+slot_from-requires c =
     let h = c.args.held.now in
     let ws = weights_of h in
     let i = c.args.session in
@@ -32,5 +32,5 @@ returns c =
     let ws = weights_of h in
     let i = c.args.session in
     let known : i < length ws = omega (arith, sessions_are h, c.requires.known) in
-    stamp_done ws c.weights.result.now c.alone-mask.result i c.args.size c.args.from c.slot-from.result c.weights.ensures (sound h).each known c.requires.long c.alone-mask.ensures.1
-    c.slot-from.ensures.counts c.slot-from.ensures.rank
+    stamp_done ws c.weights.result.now c.alone-mask.result i c.args.size c.args.from c.slot_from.result c.weights.ensures (sound h).each known c.requires.long c.alone-mask.ensures.1
+    c.slot_from.ensures.counts c.slot_from.ensures.rank

@@ -9,8 +9,8 @@ loop-weight-init g c f h = record { config = f; drafts = h; ends = refl; tells =
 pub loop-weight-preserved : goal.loop-weight-preserved
 loop-weight-preserved g c f h =
     let a = c.loop-weight.invariant f h in
-    weight_added c.args.weights.now c.loop-weight.weight-index (vec_items c.args.answers.now) (vec_items c.loop-weight.answers) (vec_items c.push.new.self) c.loop-weight.draft c.add.new.self c.of-adding-said.result c.add.result
-    c.loop-weight-test.true a (c.add.ensures.added a.config a.drafts) c.of-adding-said.ensures c.in-ok-push.ensures.items
+    weight_added c.args.weights.now c.loop-weight.weight-index (vec_items c.args.answers.now) (vec_items c.loop-weight.answers) (vec_items c.push.new.self) c.loop-weight.draft c.add.new.self c.of_adding-said.result c.add.result
+    c.loop-weight-test.true a (c.add.ensures.added a.config a.drafts) c.of_adding-said.ensures c.in_ok-push.ensures.items
 
 pub returns : goal.returns
 returns g c f h =

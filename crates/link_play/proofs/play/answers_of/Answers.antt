@@ -6,19 +6,19 @@ use Rattle.link.specs.Drafting.{Makes}
 use Rattle.link_play.proofs.Replies.{history_played, history_refused}
 use Rattle.link_play.proofs.play.answers_of.Goals as goal
 
-pub returns-in-ok-play-draft : goal.returns-in-ok-play-draft
-returns-in-ok-play-draft g c =
+pub returns-in_ok-play_draft-in-Ok : goal.returns-in_ok-play_draft-in-Ok
+returns-in_ok-play_draft-in-Ok g c =
     let m = c.args.making in
-    let put = c.in-ok-push.ensures.items in
+    let put = c.in_ok-push-in-Ok.ensures.items in
     let one : vec_items c.push.new.self ≡ Made m.number ∷ [] = search rules in
-    history_played m.number (made m.number m.largest m.capacity m.weight) c.in-Ok.draft c.args.weights.now c.args.steps.now (vec_items c.push.new.self) (vec_items c.play-draft.new.answers) c.in-Ok.ensures one c.in-ok-play-draft.ensures
+    history_played m.number (made m.number m.largest m.capacity m.weight) c.in-Ok.draft c.args.weights.now c.args.steps.now (vec_items c.push.new.self) (vec_items c.play_draft.new.answers) c.in-Ok.ensures one c.in_ok-play_draft-in-Ok.ensures
 
-pub returns-in-ok-push-2 : goal.returns-in-ok-push-2
-returns-in-ok-push-2 g c =
+pub returns-in_ok-push-in-Refused : goal.returns-in_ok-push-in-Refused
+returns-in_ok-push-in-Refused g c =
     let m = c.args.making in
     let pairs = g.W.WaitingLine.pairs in
     let capacity = g.W.WaitingLine.capacity in
-    let put = c.in-ok-push-2.ensures.items in
+    let put = c.in_ok-push-in-Refused.ensures.items in
     let why = c.in-Refused.why in
     let asked = made m.number m.largest m.capacity m.weight in
     let h = subst (λ (z : MakeError). Makes pairs capacity asked (Err z)) c.in-Refused.is c.in-Err.ensures in

@@ -16,7 +16,7 @@ pub loop-step-preserved : goal.loop-step-preserved
 loop-step-preserved g c f calls h =
     let a = c.loop-step.invariant f calls h in
     step_played c.args.steps.now c.loop-step.step-index _ (vec_items c.args.answers.now) (vec_items c.loop-step.answers) (vec_items c.push.new.self) c.loop-step.link c.play-said.new.link c.play-said.result
-    c.loop-step-test.true a (c.play-said.ensures f a.since a.led) c.in-ok-push.ensures.items
+    c.loop-step-test.true a (c.play-said.ensures f a.since a.led) c.in_ok-push.ensures.items
 
 pub returns : goal.returns
 returns g c f calls h =

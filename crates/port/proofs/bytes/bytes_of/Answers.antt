@@ -7,8 +7,8 @@ use Rattle.port.proofs.bytes.bytes_of.Goals as goal
 pub loop-i-preserved : goal.loop-i-preserved
 loop-i-preserved c =
     let inv = c.loop-i.invariant in (
-      same_len_mid _ _ c.loop-i.out c.copy-from-slice.new.self c.copy-from-slice.ensures.len ∙ inv.0,
-      written c.args.words.now c.loop-i.out c.copy-from-slice.new.self c.loop-i.i _ 0 (omega arith) inv.0 (omega arith) (c.copy-from-slice.ensures.after ∙ c.to-le-bytes.ensures) inv.1,
+      same_len_mid _ _ c.loop-i.out c.copy_from_slice.new.self c.copy_from_slice.ensures.len ∙ inv.0,
+      written c.args.words.now c.loop-i.out c.copy_from_slice.new.self c.loop-i.i _ 0 (omega arith) inv.0 (omega arith) (c.copy_from_slice.ensures.after ∙ c.to_le_bytes.ensures) inv.1,
     )
 
 pub returns : goal.returns

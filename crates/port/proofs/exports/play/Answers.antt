@@ -5,8 +5,8 @@ use Rattle.port.specs.Turns.{grown_by}
 use Rattle.port.specs.Playing.{many}
 use Rattle.port.proofs.exports.play.Goals as goal
 
-pub turn-all-requires : goal.turn-all-requires
-turn-all-requires g c =
+pub turn_all-requires : goal.turn_all-requires
+turn_all-requires g c =
     let p = c.requires in
     let none = c.in-Ok.ensures in
     record {
@@ -14,14 +14,14 @@ turn-all-requires g c =
       places = omega (arith, none.capacity);
     }
 
-pub return-all-requires : goal.return-all-requires
-return-all-requires g c =
+pub return_all-requires : goal.return_all-requires
+return_all-requires g c =
     let p = c.requires in
     let held = opened_held _ (c.open-opened.ensures p.0 p.1) c.in-Ok.ensures.items in
-    record { held = (p.0, (_, (c.turn-all.ensures p.0 held).held)) }
+    record { held = (p.0, (_, (c.turn_all.ensures p.0 held).held)) }
 
 pub returns : goal.returns
 returns g c f h =
     let held = opened_held _ (c.open-opened.ensures f h) c.in-Ok.ensures.items in
-    let all = c.turn-all.ensures f held in
+    let all = c.turn_all.ensures f held in
     record { told = all.told; rest = all.rest; lawful = lawful f h.drafted (grown_by [] (take (many c.args.calls.now c.args.answers.now) c.args.calls.now)) }

@@ -8,7 +8,7 @@ returns-in-Err g c f h =
 
 pub loop-weight-preserved : goal.loop-weight-preserved
 loop-weight-preserved g c f h =
-    come_further f c.args.weights.now c.loop-weight.weight-index 0 c.loop-weight-test.true c.add.result (c.loop-weight.invariant f h) (c.add.ensures.added _ (c.loop-weight.invariant f h).0) c.in-default.field-0 c.in-default.is
+    come_further f c.args.weights.now c.loop-weight.weight-index 0 c.loop-weight-test.true c.add.result (c.loop-weight.invariant f h) (c.add.ensures.added _ (c.loop-weight.invariant f h).0) c.in_default.field-0 c.in_default.is
 
 pub returns : goal.returns
 returns g c f h = come_all f c.args.weights.now c.loop-weight.weight-index (omega arith) (c.loop-weight.invariant f h)

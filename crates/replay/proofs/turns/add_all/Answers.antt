@@ -6,11 +6,11 @@ use Rattle.replay.proofs.turns.add_all.Goals as goal
 pub loop-weight-preserved : goal.loop-weight-preserved
 loop-weight-preserved g c =
     let inv = c.loop-weight.invariant in
-    let said = c.push-reserved.ensures in (
+    let said = c.push_reserved.ensures in (
       omega (arith, said.len, inv.0),
       said.capacity ∙ inv.1,
       λ f h.
-          added_more c.args.addings.now c.loop-weight.weight-index _ c.loop-weight-test.true _ _ _ c.of-adding.result c.add.result (inv.2 f h) said.items c.of-adding.ensures (c.add.ensures.added _ (inv.2 f h).drafts),
+          added_more c.args.addings.now c.loop-weight.weight-index _ c.loop-weight-test.true _ _ _ c.of_adding.result c.add.result (inv.2 f h) said.items c.of_adding.ensures (c.add.ensures.added _ (inv.2 f h).drafts),
     )
 
 pub returns : goal.returns

@@ -7,7 +7,7 @@ use Rattle.replay.proofs.turns.call_all.Goals as goal
 pub loop-call-preserved : goal.loop-call-preserved
 loop-call-preserved g c =
     let inv = c.loop-call.invariant in
-    let said = c.push-reserved.ensures in (
+    let said = c.push_reserved.ensures in (
       c.answer.ensures.room ∙ inv.0,
       omega (arith, said.len, inv.1),
       said.capacity ∙ inv.2,

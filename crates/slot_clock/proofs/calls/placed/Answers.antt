@@ -1,4 +1,4 @@
-use Rattle.std.proofs.Common.{◌≡◌, ℕ, ◌+◌, ◌-◌, ◌≤◌, List, ◌++◌, length, take, drop, replicate, ap, ◌∙◌, arith, length-append, length-drop}
+use Rattle.std.proofs.Common.{◌≡◌, ℕ, ◌-◌, ◌≤◌, List, ◌++◌, length, take, drop, replicate, ap, ◌∙◌, arith, length-append, length-drop}
 use lib.ListN.{length-replicate}
 use Rattle.std.proofs.lemmas.List.{take_at}
 use Rattle.slot_clock.proofs.calls.placed.Goals as goal
@@ -11,4 +11,4 @@ kept ws ys l e =
     (omega (arith, length-append ys zs, length-drop (length ws - 0) zeros, length-replicate 64 (let z : ℕ = 0 in z), n), take_at ys zs (length ws) n ∙ e)
 
 pub returns : goal.returns
-returns c = kept c.args.weights.now c.copy-from-slice.new.self c.requires c.copy-from-slice.ensures.after
+returns c = kept c.args.weights.now c.copy_from_slice.new.self c.requires c.copy_from_slice.ensures.after

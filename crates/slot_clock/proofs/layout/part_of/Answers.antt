@@ -1,12 +1,12 @@
-use Rattle.std.proofs.Common.{◌+◌, ◌-◌, min, get_or, drop, ap, arith}
+use Rattle.std.proofs.Common.{◌+◌, min, get_or, drop, ap, arith}
 use Rattle.tick_machine.proofs.Lists.{only_yes, only_no}
 use Rattle.slot_clock.specs.Layout.{marked, part}
 use Rattle.slot_clock.specs.Blocks.{part_more, part_most, part_end}
 use Rattle.slot_clock.proofs.layout.part_of.Goals as goal
 use Rattle.slot_clock.proofs.layout.part_of.Goals.{then-mask-i, else-mask-i}
 
-pub overflow-add-sum : goal.overflow-add-sum
-overflow-add-sum c =
+pub overflow_add-sum : goal.overflow_add-sum
+overflow_add-sum c =
     let ws = c.args.weights.now in
     let b = marked c.args.mask.now in
     let i = c.loop-i.i in
@@ -20,7 +20,7 @@ loop-i-preserved c =
     let i = c.loop-i.i in
     let p = c.loop-i.p in
     let m = part_more b ws i c.loop-i-test.true p in
-    let x = ap (part b (i + 1) (drop (i + 1) ws)) c.saturating-sub-p.ensures in
+    let x = ap (part b (i + 1) (drop (i + 1) ws)) c.saturating_sub-p.ensures in
     elim c.if-mask-i.branch [
       | then-mask-i w ↦ omega (arith, w.sum-is, c.loop-i.invariant, m, x, w.min-sum.ensures, only_yes (b i) (min p (get_or ws i 0)) w.if-mask-i.true)
       | else-mask-i w ↦ omega (arith, w.sum-is, c.loop-i.invariant, m, x, only_no (b i) (min p (get_or ws i 0)) w.if-mask-i.false)

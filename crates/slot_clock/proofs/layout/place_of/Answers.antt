@@ -1,4 +1,4 @@
-use Rattle.std.proofs.Common.{◌+◌, ◌-◌, get_or, drop, ap, arith}
+use Rattle.std.proofs.Common.{◌+◌, get_or, drop, ap, arith}
 use Rattle.tick_machine.proofs.Lists.{only_yes, only_no}
 use Rattle.slot_clock.specs.Layout.{marked, place}
 use Rattle.slot_clock.specs.Blocks.{round_more, whole_more, whole_end, place_here, place_past, place_idle}
@@ -8,15 +8,15 @@ use Rattle.slot_clock.proofs.layout.place_of.Goals.{then-mask-i+else-u-weights, 
 pub loop-i-init : goal.loop-i-init
 loop-i-init c = (omega arith, c.requires.fewer, omega arith)
 
-pub overflow-add-result : goal.overflow-add-result
-overflow-add-result c = omega (arith, c.loop-i.invariant.2, c.requires.small, c.if-u-weights.true, round_more c.args.weights.now c.loop-i.i c.loop-i-test.true)
+pub overflow_add-result : goal.overflow_add-result
+overflow_add-result c = omega (arith, c.loop-i.invariant.2, c.requires.small, c.if-u-weights.true, round_more c.args.weights.now c.loop-i.i c.loop-i-test.true)
 
 pub returns-then-u-weights : goal.returns-then-u-weights
 returns-then-u-weights c =
     omega (arith, c.loop-i.invariant.0, place_here (marked c.args.mask.now) c.args.weights.now c.loop-i.i c.loop-i-test.true c.loop-i.u c.if-mask-i.true c.if-u-weights.true)
 
-pub overflow-add-start : goal.overflow-add-start
-overflow-add-start c = omega (arith, c.loop-i.invariant.2, c.requires.small, round_more c.args.weights.now c.loop-i.i c.loop-i-test.true)
+pub overflow_add-start : goal.overflow_add-start
+overflow_add-start c = omega (arith, c.loop-i.invariant.2, c.requires.small, round_more c.args.weights.now c.loop-i.i c.loop-i-test.true)
 
 pub loop-i-preserved : goal.loop-i-preserved
 loop-i-preserved c =

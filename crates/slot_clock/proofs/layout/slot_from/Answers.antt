@@ -1,4 +1,4 @@
-use Rattle.std.proofs.Common.{◌≡◌, ℕ, ◌+◌, ◌-◌, ◌*◌, ◌/◌, ◌%◌, ◌<◌, ◌≤◌, Bool, List, refl, ap, mod-lt, arith}
+use Rattle.std.proofs.Common.{◌≡◌, ℕ, ◌+◌, ◌*◌, ◌/◌, ◌%◌, ◌<◌, ◌≤◌, Bool, List, refl, ap, mod-lt, arith}
 use Rattle.tick_machine.specs.Lists.{count}
 use Rattle.tick_machine.specs.Slots.{round_length}
 use Rattle.slot_clock.specs.Layout.{marked, counted, whole, part, place}
@@ -8,16 +8,16 @@ use Rattle.slot_clock.proofs.layout.slot_from.Goals as goal
 heavy : (ws : List ℕ) (mask : List Bool) (n a : ℕ) → n ≡ round_length ws → 0 < count (counted ws mask) n → a ≡ whole (marked mask) 0 ws → 0 < a
 heavy ws mask n a e h f = omega (arith, whole_count (marked mask) ws, ap (count (counted ws mask)) e)
 
-pub overflow-add-u : goal.overflow-add-u
-overflow-add-u c =
+pub overflow_add-u : goal.overflow_add-u
+overflow_add-u c =
     let ws = c.args.weights.now in
     let b = marked c.args.mask.now in
     let t = c.args.between in
     let e : (t + 1) * 1 ≤ (t + 1) * c.args.round = times_least (t + 1) c.args.round c.requires.some in
-    omega (arith, c.part-of.ensures, part_most b 0 ws (c.args.from % c.args.round), c.requires.whole, c.requires.small, c.requires.near, e)
+    omega (arith, c.part_of.ensures, part_most b 0 ws (c.args.from % c.args.round), c.requires.whole, c.requires.small, c.requires.near, e)
 
-pub nonzero-div-result-2 : goal.nonzero-div-result-2
-nonzero-div-result-2 c = heavy c.args.weights.now c.args.mask.now c.args.round c.weight-of-all.result c.requires.whole c.requires.hit c.weight-of-all.ensures
+pub nonzero_div-result-2 : goal.nonzero_div-result-2
+nonzero_div-result-2 c = heavy c.args.weights.now c.args.mask.now c.args.round c.weight_of-all.result c.requires.whole c.requires.hit c.weight_of-all.ensures
 
 -- whole rounds, before the place in the last one is added
 rounds_near : (ws : List ℕ) (mask : List Bool) (from t n a r : ℕ) → n ≡ round_length ws → 0 < n → a ≡ whole (marked mask) 0 ws → 0 < a → r ≡ part (marked mask) 0 ws (from % n)
@@ -27,47 +27,47 @@ rounds_near ws mask from t n a r e l f s g h =
     let m : (t + 1) * n ≡ (t + 1) * round_length ws = ap (λ x. (t + 1) * x) e in
     omega (arith, d.near, m)
 
-pub overflow-add-result : goal.overflow-add-result
-overflow-add-result c =
-    let s = heavy c.args.weights.now c.args.mask.now c.args.round c.weight-of-all.result c.requires.whole c.requires.hit c.weight-of-all.ensures in
-    let r = rounds_near c.args.weights.now c.args.mask.now c.args.from c.args.between c.args.round c.weight-of-all.result c.part-of.result
-    c.requires.whole c.requires.some c.weight-of-all.ensures s c.part-of.ensures c.requires.near in
-    let k = c.args.from / c.args.round + (c.part-of.result + c.args.between) / c.weight-of-all.result in
+pub overflow_add-result : goal.overflow_add-result
+overflow_add-result c =
+    let s = heavy c.args.weights.now c.args.mask.now c.args.round c.weight_of-all.result c.requires.whole c.requires.hit c.weight_of-all.ensures in
+    let r = rounds_near c.args.weights.now c.args.mask.now c.args.from c.args.between c.args.round c.weight_of-all.result c.part_of.result
+    c.requires.whole c.requires.some c.weight_of-all.ensures s c.part_of.ensures c.requires.near in
+    let k = c.args.from / c.args.round + (c.part_of.result + c.args.between) / c.weight_of-all.result in
     let e : k * 1 ≤ k * c.args.round = times_least k c.args.round c.requires.some in
     omega (arith, r, e)
 
-pub overflow-mul-result : goal.overflow-mul-result
-overflow-mul-result c =
-    let s = heavy c.args.weights.now c.args.mask.now c.args.round c.weight-of-all.result c.requires.whole c.requires.hit c.weight-of-all.ensures in
+pub overflow_mul-result : goal.overflow_mul-result
+overflow_mul-result c =
+    let s = heavy c.args.weights.now c.args.mask.now c.args.round c.weight_of-all.result c.requires.whole c.requires.hit c.weight_of-all.ensures in
     omega (
       arith,
-      rounds_near c.args.weights.now c.args.mask.now c.args.from c.args.between c.args.round c.weight-of-all.result c.part-of.result
-          c.requires.whole c.requires.some c.weight-of-all.ensures s c.part-of.ensures c.requires.near,
+      rounds_near c.args.weights.now c.args.mask.now c.args.from c.args.between c.args.round c.weight_of-all.result c.part_of.result
+          c.requires.whole c.requires.some c.weight_of-all.ensures s c.part_of.ensures c.requires.near,
     )
 
-pub nonzero-rem-u : goal.nonzero-rem-u
-nonzero-rem-u c = nonzero-div-result-2 c
+pub nonzero_rem-u : goal.nonzero_rem-u
+nonzero_rem-u c = nonzero_div-result-2 c
 
-pub place-of-requires : goal.place-of-requires
-place-of-requires c =
-    let s = nonzero-div-result-2 c in
-    record { small = omega (arith, c.requires.whole, c.requires.small); same = c.requires.same; fewer = omega (arith, mod-lt (c.part-of.result + c.args.between) s, c.weight-of-all.ensures) }
+pub place_of-requires : goal.place_of-requires
+place_of-requires c =
+    let s = nonzero_div-result-2 c in
+    record { small = omega (arith, c.requires.whole, c.requires.small); same = c.requires.same; fewer = omega (arith, mod-lt (c.part_of.result + c.args.between) s, c.weight_of-all.ensures) }
 
-pub overflow-add-result-2 : goal.overflow-add-result-2
-overflow-add-result-2 c =
+pub overflow_add-result-2 : goal.overflow_add-result-2
+overflow_add-result-2 c =
     let n = c.args.round in
     let t = c.args.between in
-    let s = heavy c.args.weights.now c.args.mask.now n c.weight-of-all.result c.requires.whole c.requires.hit c.weight-of-all.ensures in
+    let s = heavy c.args.weights.now c.args.mask.now n c.weight_of-all.result c.requires.whole c.requires.hit c.weight_of-all.ensures in
     let m : (t + 1) * n ≡ (t + 1) * round_length c.args.weights.now = ap (λ x. (t + 1) * x) c.requires.whole in
-    let d = slot_done (marked c.args.mask.now) c.args.weights.now c.args.from t n c.weight-of-all.result (c.part-of.result + t) c.place-of.result
-    c.requires.whole c.requires.some c.weight-of-all.ensures s (ap (λ x. x + t) c.part-of.ensures) c.place-of.ensures in
+    let d = slot_done (marked c.args.mask.now) c.args.weights.now c.args.from t n c.weight_of-all.result (c.part_of.result + t) c.place_of.result
+    c.requires.whole c.requires.some c.weight_of-all.ensures s (ap (λ x. x + t) c.part_of.ensures) c.place_of.ensures in
     omega (arith, d.near, m, c.requires.near)
 
 pub returns : goal.returns
 returns c =
     let n = c.args.round in
     let t = c.args.between in
-    let s = heavy c.args.weights.now c.args.mask.now n c.weight-of-all.result c.requires.whole c.requires.hit c.weight-of-all.ensures in
-    let d = slot_done (marked c.args.mask.now) c.args.weights.now c.args.from t n c.weight-of-all.result (c.part-of.result + t) c.place-of.result
-    c.requires.whole c.requires.some c.weight-of-all.ensures s (ap (λ x. x + t) c.part-of.ensures) c.place-of.ensures in
+    let s = heavy c.args.weights.now c.args.mask.now n c.weight_of-all.result c.requires.whole c.requires.hit c.weight_of-all.ensures in
+    let d = slot_done (marked c.args.mask.now) c.args.weights.now c.args.from t n c.weight_of-all.result (c.part_of.result + t) c.place_of.result
+    c.requires.whole c.requires.some c.weight_of-all.ensures s (ap (λ x. x + t) c.part_of.ensures) c.place_of.ensures in
     record { counts = d.counts; rank = d.rank }

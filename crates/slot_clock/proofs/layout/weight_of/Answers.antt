@@ -1,12 +1,12 @@
-use Rattle.std.proofs.Common.{◌-◌, get_or, arith}
+use Rattle.std.proofs.Common.{get_or, arith}
 use Rattle.tick_machine.proofs.Lists.{only_yes, only_no}
 use Rattle.slot_clock.specs.Layout.{marked}
 use Rattle.slot_clock.specs.Blocks.{whole_more, whole_most, whole_end}
 use Rattle.slot_clock.proofs.layout.weight_of.Goals as goal
 use Rattle.slot_clock.proofs.layout.weight_of.Goals.{then-mask-i, else-mask-i}
 
-pub overflow-add-sum : goal.overflow-add-sum
-overflow-add-sum c =
+pub overflow_add-sum : goal.overflow_add-sum
+overflow_add-sum c =
     let ws = c.args.weights.now in
     let b = marked c.args.mask.now in
     let i = c.loop-i.i in

@@ -5,8 +5,8 @@ use Rattle.slot_clock.specs.Calls.{no_zero}
 use Rattle.slot_clock.specs.Holding.{sessions_are, held_from}
 use Rattle.slot_clock.proofs.step.stamp_of.Goals as goal
 
-pub walk-stamp-requires : goal.walk-stamp-requires
-walk-stamp-requires c =
+pub walk_stamp-requires : goal.walk_stamp-requires
+walk_stamp-requires c =
     let h = c.args.held.now in
     let e = sym c.weights.ensures in
     record {
@@ -19,4 +19,4 @@ walk-stamp-requires c =
     }
 
 pub returns : goal.returns
-returns c = c.walk-stamp.ensures ∙ ap (λ x. final 0 (own_slots x c.args.session c.args.size c.args.from)) c.weights.ensures
+returns c = c.walk_stamp.ensures ∙ ap (λ x. final 0 (own_slots x c.args.session c.args.size c.args.from)) c.weights.ensures

@@ -1,4 +1,4 @@
-use Rattle.std.proofs.Common.{◌≡◌, ◌+◌, ◌-◌, get_or, sym, ap, ◌∙◌, arith}
+use Rattle.std.proofs.Common.{◌≡◌, ◌+◌, get_or, sym, ap, ◌∙◌, arith}
 use Rattle.std.proofs.lemmas.Bool.{lt-ltb, le-ltb}
 use Rattle.tick_machine.specs.Slots.{owner}
 use Rattle.slot_clock.specs.Walk.{ticks_cursor}
@@ -14,12 +14,12 @@ loop-left-init c =
     let m = c.min-left.ensures in
     (ap (λ x. ticks_cursor ws next x c.args.cursor) m ∙ cursor_enough ws next c.args.ticks c.args.owed c.args.cursor c.requires.owed, omega (arith, m, c.requires.owed))
 
-pub overflow-add-v : goal.overflow-add-v
-overflow-add-v c =
+pub overflow_add-v : goal.overflow_add-v
+overflow_add-v c =
     let ws = c.args.weights.now in
     let next = c.args.next.now in
     let a = owed_ahead ws next c.loop-left.v (omega (arith, c.loop-left-test.true, c.loop-left.invariant.1)) in
-    omega (arith, a, greatest_most next 18446744073709551615 (λ j l. omega (arith, c.type-inv.next j)))
+    omega (arith, a, greatest_most next 18446744073709551615 (λ j l. omega (arith, c.type_inv.next j)))
 
 pub loop-left-smaller : goal.loop-left-smaller
 loop-left-smaller c = omega (arith, owed_ahead c.args.weights.now c.args.next.now c.loop-left.v (omega (arith, c.loop-left-test.true, c.loop-left.invariant.1)))
@@ -32,7 +32,7 @@ loop-left-preserved c =
     let left = c.loop-left.left in
     let some = c.loop-left-test.true in
     let a = owed_ahead ws next v (omega (arith, some, c.loop-left.invariant.1)) in
-    let o = ap (λ s. get_or next s 0) c.owner-of-session.ensures.is in
+    let o = ap (λ s. get_or next s 0) c.owner_of-session.ensures.is in
     elim c.if-v-next.branch [
       | then-v-next w ↦
           let d = lt-ltb v (get_or next (owner ws v) 0) (omega (arith, w.if-v-next.true, o)) in (

@@ -6,4 +6,4 @@ pub loop-v-smaller : goal.loop-v-smaller
 loop-v-smaller g c =
     let ps = g.V.WaitingLine.pairs c.loop-v.v in
     let some : 0 < length ps = omega (arith, c.size.ensures) in
-    omega (arith, ap length c.both-take-one.ensures.after, rest_is_shorter ps some)
+    omega (arith, ap length c.both_take-one.ensures.after, rest_is_shorter ps some)

@@ -3,7 +3,6 @@ use Rattle.std.specs.List.Sorted.{IsPermutation}
 use Rattle.std.proofs.lemmas.List.{get_or-take}
 use Rattle.heap_order.specs.Heaps.{Heavy}
 use Rattle.jump_clock.specs.declared.dry.Dry.{Dry}
-use Rattle.jump_clock.specs.declared.dry.Busy.{Busy}
 use Rattle.jump_clock.specs.Dries.{blank, by_end, items}
 use Rattle.jump_clock.proofs.Heaps.{heavy_top, front_set, lost}
 use Rattle.jump_clock.proofs.Busies.{items_are}

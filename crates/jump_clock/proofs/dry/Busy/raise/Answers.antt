@@ -5,8 +5,8 @@ use Rattle.jump_clock.specs.Dries.{by_end}
 use Rattle.jump_clock.proofs.Heaps.{sifted, sifted_length}
 use Rattle.jump_clock.proofs.dry.Busy.raise.Goals as goal
 
-pub sift-up-requires : goal.sift-up-requires
-sift-up-requires c =
+pub sift_up-requires : goal.sift_up-requires
+sift_up-requires c =
     let b = c.args.self.now in
     let n = b.count in
     let e : n ≡ n - 0 = omega arith in
@@ -21,10 +21,10 @@ pub returns : goal.returns
 returns c =
     let b = c.args.self.now in
     let n = b.count in
-    let s = sifted b.places c.sift-up.new.s (drop (n - 0) b.places) n (omega (arith, b.fits.0, b.fits.1)) c.sift-up.ensures.shuffled c.sift-up.ensures.heaped in
+    let s = sifted b.places c.sift_up.new.s (drop (n - 0) b.places) n (omega (arith, b.fits.0, b.fits.1)) c.sift_up.ensures.shuffled c.sift_up.ensures.heaped in
     record { shuffled = s.0; ordered = s.1; count = refl }
 
-pub invariant-of-self : goal.invariant-of-self
-invariant-of-self c =
+pub invariant_of-self : goal.invariant_of-self
+invariant_of-self c =
     let b = c.args.self.now in
-    ((sifted_length b.places c.sift-up.new.s b.count (omega (arith, b.fits.0, b.fits.1)) c.sift-up.ensures.shuffled ∙ b.fits.0, b.fits.1), tt)
+    record { fits = (sifted_length b.places c.sift_up.new.s b.count (omega (arith, b.fits.0, b.fits.1)) c.sift_up.ensures.shuffled ∙ b.fits.0, b.fits.1) }

@@ -9,6 +9,6 @@ returns c =
     let h = l.held in
     let exit = c.pass.new.self in
     let before = sessions_busy h l.busy h.cursor (next_of h) refl refl l.holds in
-    let after = sessions_busy exit c.run-on-to.new.busy c.run-on-to.result.0 (next_of h) c.pass.ensures.next.0 c.pass.ensures.next.1 c.run-on-to.ensures.holds in
-    let half = halfway_state h exit c.run-on-to.result.0 (next_of h) c.pass.ensures.next.0 c.pass.ensures.next.1 in
-    record { after = c.pass.ensures.after; answer = (c.pass.ensures.answer, omega (arith, before, after, c.run-on-to.ensures.jumps, half)) }
+    let after = sessions_busy exit c.run_on-to.new.busy c.run_on-to.result.0 (next_of h) c.pass.ensures.next.0 c.pass.ensures.next.1 c.run_on-to.ensures.holds in
+    let half = halfway_state h exit c.run_on-to.result.0 (next_of h) c.pass.ensures.next.0 c.pass.ensures.next.1 in
+    record { after = c.pass.ensures.after; answer = (c.pass.ensures.answer, omega (arith, before, after, c.run_on-to.ensures.jumps, half)) }

@@ -1,4 +1,4 @@
-use Rattle.std.proofs.Common.{◌≡◌, ℕ, ◌-◌, ◌^◌, ◌<◌, sym, refl, ap, ◌∙◌, subst, arith, w64, SFits, to_z, of_z, rules}
+use Rattle.std.proofs.Common.{ℕ, ◌^◌, ◌<◌, sym, ◌∙◌, subst, arith, w64, SFits, to_z, of_z, rules}
 use Rattle.std.proofs.lemmas.Int.{to_z-of_z}
 use Rattle.link.proofs.Readings.{figures_refused, owed_known, sent_small, served_small, figures_goes, lead_bounded}
 use Rattle.link.proofs.link.Link.figures.Goals as goal
@@ -16,16 +16,16 @@ returns g c =
     let is = c.index-record.ensures in
     let owed = c.in-Ok.owed in
     let owes = c.in-Ok.ensures in
-    let served = c.saturating-sub-served.result in
-    let ev = c.saturating-sub-served.ensures in
-    let z = c.lead-of-lead.result in
+    let served = c.saturating_sub-served.result in
+    let ev = c.saturating_sub-served.ensures in
+    let z = c.lead_of-lead.result in
     let fits : SFits w64 z = search rules in
     let stored = to_z w64 (of_z w64 z) in
     record {
       keeps = λ f calls h.
-          let lead = c.lead-of-lead.ensures (sent_small h i (omega arith) r is owed owes) (subst (λ (x : ℕ). x < 2 ^ 63) (sym ev) (served_small h i (omega arith) r is owed owes)) in
-          figures_goes h i (omega arith) r is owed owes served stored c.bytes-of-waiting.result ev (to_z-of_z w64 z fits ∙ lead) _ c.deref.ensures.value c.bytes-of-waiting.ensures;
+          let lead = c.lead_of-lead.ensures (sent_small h i (omega arith) r is owed owes) (subst (λ (x : ℕ). x < 2 ^ 63) (sym ev) (served_small h i (omega arith) r is owed owes)) in
+          figures_goes h i (omega arith) r is owed owes served stored c.bytes_of-waiting.result ev (to_z-of_z w64 z fits ∙ lead) _ c.deref.ensures.value c.bytes_of-waiting.ensures;
       lead = λ f calls h some.
-          let lead = c.lead-of-lead.ensures (sent_small h i (omega arith) r is owed owes) (subst (λ (x : ℕ). x < 2 ^ 63) (sym ev) (served_small h i (omega arith) r is owed owes)) in
-          lead_bounded h i (omega arith) r is owed owes served stored c.bytes-of-waiting.result ev (to_z-of_z w64 z fits ∙ lead) some;
+          let lead = c.lead_of-lead.ensures (sent_small h i (omega arith) r is owed owes) (subst (λ (x : ℕ). x < 2 ^ 63) (sym ev) (served_small h i (omega arith) r is owed owes)) in
+          lead_bounded h i (omega arith) r is owed owes served stored c.bytes_of-waiting.result ev (to_z-of_z w64 z fits ∙ lead) some;
     }

@@ -1,4 +1,4 @@
-use Rattle.std.proofs.Common.{◌≡◌, ℕ, List, sym, ap, ◌∙◌, subst, arith, rules}
+use Rattle.std.proofs.Common.{ℕ, List, sym, ap, ◌∙◌, subst}
 use Rattle.link.specs.Places.{At, Nowhere, itself}
 use Rattle.tick_machine.specs.Desk.{among}
 use Rattle.link.proofs.Slips.{at_among, nowhere_among, not_out, is_out}

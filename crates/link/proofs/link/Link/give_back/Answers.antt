@@ -7,7 +7,7 @@ pub returns-in-Ok : goal.returns-in-Ok
 returns-in-Ok g c = record {
   keeps = λ f calls h.
       return_goes h c.args.slip.says.link c.args.slip.says.packet (c.in-Ok.ensures.value f (after f calls) h.shown) c.in-Ok.i c.in-Ok.ensures.found _ c.remove-self.ensures.items
-      refl refl refl refl refl refl refl refl refl refl refl c.saturating-add-self.ensures;
+      refl refl refl refl refl refl refl refl refl refl refl c.saturating_add-self.ensures;
   back = tt;
 }
 

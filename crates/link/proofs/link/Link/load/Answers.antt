@@ -1,4 +1,4 @@
-use Rattle.std.proofs.Common.{refl, arith, rules}
+use Rattle.std.proofs.Common.{refl, arith}
 use Rattle.link.proofs.Loads.{load_there, load_some, load_shown}
 use Rattle.link.proofs.link.Link.load.Goals as goal
 
@@ -17,8 +17,8 @@ returns-else-packet-gt0 g c = record {
   clock = refl;
 }
 
-pub returns-in-default : goal.returns-in-default
-returns-in-default g c = record {
-  shows = λ f m s o. absurd (load_there s o c.in-Free-Some.pair c.in-Free-Some.is-0 c.in-Free-Some.ensures _ c.deref.ensures.value c.in-default.ensures);
+pub returns-in_default : goal.returns-in_default
+returns-in_default g c = record {
+  shows = λ f m s o. absurd (load_there s o c.in-Free-Some.pair c.in-Free-Some.is-0 c.in-Free-Some.ensures _ c.deref.ensures.value c.in_default.ensures);
   clock = refl;
 }

@@ -1,4 +1,4 @@
-use Rattle.std.proofs.Common.{◌≡◌, ℕ, ◌+◌, ◌-◌, ◌≤◌, sym, refl, ap, ◌∙◌, subst, arith, rules}
+use Rattle.std.proofs.Common.{◌≡◌, ℕ, ◌+◌, ◌-◌, ◌≤◌, subst, arith, rules}
 use Rattle.tick_machine.specs.Machine.{ticks}
 use Rattle.tick_machine.specs.Life.{last_tick, after}
 use Rattle.link.specs.Shown.{Shown}
@@ -9,8 +9,8 @@ use Rattle.link.proofs.link.Link.move_to.Goals as goal
 pub returns-then-tick-self : goal.returns-then-tick-self
 returns-then-tick-self g c f calls h = passed_goes h c.args.tick c.if-tick-self.true
 
-pub returns-then-tick-gt-LAST-TICK : goal.returns-then-tick-gt-LAST-TICK
-returns-then-tick-gt-LAST-TICK g c f calls h = past_goes h c.args.tick c.if-tick-self.false c.if-tick-gt-LAST-TICK.true
+pub returns-then-tick-gt-LAST_TICK : goal.returns-then-tick-gt-LAST_TICK
+returns-then-tick-gt-LAST_TICK g c f calls h = past_goes h c.args.tick c.if-tick-self.false c.if-tick-gt-LAST_TICK.true
 
 pub loop-self-init : goal.loop-self-init
 loop-self-init g c =
@@ -29,7 +29,7 @@ loop-self-preserved g c =
       omega arith,
       omega arith,
       λ f calls h.
-          let within : (after f calls).clock + a ≤ last_tick = omega (arith, h.shown.clock_is, inv.0, inv.1, c.if-tick-gt-LAST-TICK.false) in
+          let within : (after f calls).clock + a ≤ last_tick = omega (arith, h.shown.clock_is, inv.0, inv.1, c.if-tick-gt-LAST_TICK.false) in
           joined_shown (after f calls) a b _ (omega arith) (c.stretch.ensures.shows f (ticks f a (after f calls)) (inv.2 f calls h) (orderly_ticks f h.drafted calls a within)),
     )
 

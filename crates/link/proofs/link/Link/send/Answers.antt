@@ -1,4 +1,4 @@
-use Rattle.std.proofs.Common.{refl, ◌∙◌, arith, rules}
+use Rattle.std.proofs.Common.{refl, ◌∙◌}
 use Rattle.link.proofs.Sends.{send_known, send_fits, send_shown, part_line, part_left, whole_line, whole_left}
 use Rattle.link.proofs.link.Link.send.Goals as goal
 
@@ -8,7 +8,7 @@ returns-then-bytes-rest g c = record {
       let k = c.args.bytes in
       let p = c.in-Sending.packet in
       let on = c.in-Sending.is in
-      let note = c.note-sent.ensures in
+      let note = c.note_sent.ensures in
       send_shown s k h p c.in-Sending.started c.in-Sending.rest on _ (note.sent (send_known s k h p _ _ on) (send_fits s k h p _ _ on)) note.accepted note.many
       (part_line s k h p _ _ on c.if-bytes-rest.true) (part_left s k h p _ _ on _ c.if-bytes-rest.true) refl refl refl refl refl refl refl refl refl refl;
   clock = refl;
@@ -20,8 +20,8 @@ returns-else-bytes-rest g c = record {
       let k = c.args.bytes in
       let p = c.in-Sending.packet in
       let on = c.in-Sending.is in
-      let note = c.note-sent.ensures in
+      let note = c.note_sent.ensures in
       send_shown s k h p c.in-Sending.started c.in-Sending.rest on _ (note.sent (send_known s k h p _ _ on) (send_fits s k h p _ _ on)) note.accepted note.many
-      (whole_line s k h p _ _ on c.if-bytes-rest.false) (c.push-reserved.ensures.items ∙ whole_left s k h p _ _ on _ c.if-bytes-rest.false) refl refl refl refl refl refl refl refl refl refl;
+      (whole_line s k h p _ _ on c.if-bytes-rest.false) (c.push_reserved.ensures.items ∙ whole_left s k h p _ _ on _ c.if-bytes-rest.false) refl refl refl refl refl refl refl refl refl refl;
   clock = refl;
 }

@@ -1,4 +1,4 @@
-use Rattle.std.proofs.Common.{◌≡◌, ◌+◌, ◌-◌, ◌<◌, ◌≤◌, refl, arith, rules}
+use Rattle.std.proofs.Common.{◌+◌, ◌-◌, ◌≤◌, refl, arith}
 use Rattle.link.specs.Stretch.{loaded, spent}
 use Rattle.link.proofs.Spends.{reach_most, reach_some, spend_shown, carries, stretch_shown}
 use Rattle.link.proofs.link.Link.stretch.Goals as goal

@@ -1,4 +1,4 @@
-use Rattle.std.proofs.Common.{◌≡◌, min, eqb, ap, ◌∙◌, arith, take_all, rules}
+use Rattle.std.proofs.Common.{min, eqb, ap, ◌∙◌, arith, take_all}
 use Rattle.tick_machine.specs.Lists.{total, only}
 use Rattle.link.specs.Places.{packet_number}
 use Rattle.link.proofs.Readings.{bytes_counted, bytes_passed}
@@ -9,7 +9,7 @@ pub loop-packet-preserved : goal.loop-packet-preserved
 loop-packet-preserved c =
     elim c.if-packet-session.branch [
       | then-packet-session w ↦ bytes_counted c.args.session c.args.table.now c.loop-packet.packet-index packet_number.blank c.loop-packet-test.true c.loop-packet.sum c.if-packet-session.sum c.loop-packet.invariant
-          w.if-packet-session.true (w.sum-is ∙ w.saturating-add-sum.ensures)
+          w.if-packet-session.true (w.sum-is ∙ w.saturating_add-sum.ensures)
       | else-packet-session w ↦ bytes_passed c.args.session c.args.table.now c.loop-packet.packet-index packet_number.blank c.loop-packet-test.true c.loop-packet.sum c.if-packet-session.sum c.loop-packet.invariant
           w.if-packet-session.false w.sum-is
     ]

@@ -4,13 +4,25 @@ use Rattle.slot_clock.specs.Held.{held_state}
 use Rattle.slot_clock.proofs.Making.{starts, made}
 use Rattle.slot_clock.proofs.held.Held.make.Goals as goal
 
-pub invariant-of-result : goal.invariant-of-result
-invariant-of-result c =
+pub invariant_of-result : goal.invariant_of-result
+invariant_of-result c =
     let ws = c.args.weights.now in
     let l : 0 < length ws = search rules in
     let u : length ws ≤ 64 = search rules in
     let s = starts ws (take (length ws) c.placed-weights.result) (take (length ws) (replicate 64 0)) c.in-Some.round c.placed-weights.ensures.1 (take-replicate (length ws) 64 0 u) l c.in-Some.ensures in
-    ((c.placed-weights.ensures.0, refl), (u, (s.whole, (s.some, (s.small, (s.each, (s.tops, (omega arith, (omega arith, (s.sum, (omega arith, tt)))))))))))
+    record {
+      places = (c.placed-weights.ensures.0, refl);
+      fits = u;
+      whole = s.whole;
+      some = s.some;
+      small = s.small;
+      each = s.each;
+      tops = s.tops;
+      paced = omega arith;
+      few = omega arith;
+      sum = s.sum;
+      inside = omega arith;
+    }
 
 pub returns : goal.returns
 unfolding held_state

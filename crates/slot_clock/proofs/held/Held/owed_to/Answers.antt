@@ -1,4 +1,4 @@
-use Rattle.std.proofs.Common.{◌≡◌, ◌-◌, get_or, sym, ap, ◌∙◌, arith}
+use Rattle.std.proofs.Common.{◌≡◌, get_or, sym, ap, ◌∙◌, arith}
 use Rattle.std.proofs.lemmas.List.{get_or-take}
 use Rattle.tick_machine.specs.Lists.{count}
 use Rattle.slot_clock.specs.Layout.{counted}
@@ -18,9 +18,9 @@ returns c =
     let ws = weights_of h in
     let mask = c.alone-mask.result in
     let l = c.if-session-self.false in
-    let until : c.rank-of-until.result ≡ below ws i (get_or (next_of h) i 0)
-    = c.rank-of-until.ensures.is ∙ ap (λ x. count (counted x mask) (get_or h.next i 0)) c.weights.ensures
+    let until : c.rank_of-until.result ≡ below ws i (get_or (next_of h) i 0)
+    = c.rank_of-until.ensures.is ∙ ap (λ x. count (counted x mask) (get_or h.next i 0)) c.weights.ensures
     ∙ alone_counts ws mask i c.alone-mask.ensures.1 (get_or h.next i 0) ∙ ap (below ws i) (sym (get_or-take h.sessions h.next i 0 l)) in
-    let since : c.rank-of.result ≡ below ws i h.cursor
-    = c.rank-of.ensures.is ∙ ap (λ x. count (counted x mask) h.cursor) c.weights-2.ensures ∙ alone_counts ws mask i c.alone-mask.ensures.1 h.cursor in
-    owed_known h i c.saturating-sub.result l (omega (arith, c.saturating-sub.ensures, until, since))
+    let since : c.rank_of.result ≡ below ws i h.cursor
+    = c.rank_of.ensures.is ∙ ap (λ x. count (counted x mask) h.cursor) c.weights-2.ensures ∙ alone_counts ws mask i c.alone-mask.ensures.1 h.cursor in
+    owed_known h i c.saturating_sub.result l (omega (arith, c.saturating_sub.ensures, until, since))

@@ -1,14 +1,26 @@
-use Rattle.std.proofs.Common.{◌-◌, refl, ◌∙◌, arith}
+use Rattle.std.proofs.Common.{refl, ◌∙◌, arith}
 use Rattle.slot_clock.specs.Held.{held_state}
 use Rattle.slot_clock.specs.Holding.{held_passed, pass_answer, pass_after}
 use Rattle.slot_clock.proofs.held.Held.pass.Goals as goal
 
-pub invariant-of-self : goal.invariant-of-self
-invariant-of-self c =
+pub invariant_of-self : goal.invariant_of-self
+invariant_of-self c =
     let h = c.args.self.now in
     let s = held_passed h c.args.ticks c.args.to c.requires.few c.requires.there in
-    let left = c.saturating-sub-self.ensures in
-    (h.places, (h.fits, (h.whole, (h.some, (h.small, (h.each, (s.tops, (s.paced, (s.few, (left ∙ s.sum, (omega (arith, s.inside, left), tt)))))))))))
+    let left = c.saturating_sub-self.ensures in
+    record {
+      places = h.places;
+      fits = h.fits;
+      whole = h.whole;
+      some = h.some;
+      small = h.small;
+      each = h.each;
+      tops = s.tops;
+      paced = s.paced;
+      few = s.few;
+      sum = left ∙ s.sum;
+      inside = omega (arith, s.inside, left);
+    }
 
 pub returns : goal.returns
 unfolding held_state

@@ -11,7 +11,7 @@ pub push-requires : goal.push-requires
 push-requires c =
     let self = c.args.self.now in
     let ps = vec_items self.items in
-    let room = room_tells (sorted ps) self.limit (sym c.in-ok-room.ensures) in
+    let room = room_tells (sorted ps) self.limit (sym c.in_ok-room.ensures) in
     let n = length_sorted ps in
     record { room = omega arith; heaped = heaped_from by_stamp blank ps self.heaped }
 
@@ -20,41 +20,42 @@ returns-then-has c =
     let self = c.args.self.now in
     let ps = vec_items self.items in
     let p = c.args.pair in
-    let room = room_tells (sorted ps) self.limit (sym c.in-ok-room.ensures) in
+    let room = room_tells (sorted ps) self.limit (sym c.in_ok-room.ensures) in
     let said = put_twice (sorted ps) self.limit p room (holds_sorted p.stamp ps ∙ sym c.if-has.ensures) in
     record { answer = sym said.0; after = sym said.1; capacity = refl; refused = refl }
 
-pub overflow-add-self : goal.overflow-add-self
-overflow-add-self c =
+pub overflow_add-index_mut : goal.overflow_add-index_mut
+overflow_add-index_mut c =
     let self = c.args.self.now in
     let l : c.place.result < length (vec_items self.counts) = search rules in
-    omega (arith, count_few (vec_items self.items) (vec_items self.counts) c.place.result _ l c.index-mut.ensures.value self.counted)
+    omega (arith, count_few (vec_items self.items) (vec_items self.counts) c.place.result _ l c.index_mut.ensures.value self.counted)
 
-pub invariant-of-self : goal.invariant-of-self
-invariant-of-self c =
+pub invariant_of-self : goal.invariant_of-self
+invariant_of-self c =
     let self = c.args.self.now in
     let ps = vec_items self.items in
     let p = c.args.pair in
-    let room = room_tells (sorted ps) self.limit (sym c.in-ok-room.ensures) in
+    let room = room_tells (sorted ps) self.limit (sym c.in_ok-room.ensures) in
     let n = length_sorted ps in
     let l : c.place.result < length (vec_items self.counts) = search rules in
-    let said = c.push.ensures in (
-      heaped_at by_stamp blank _ said.heaped,
-      (
-        put_apart p ps _ said.shuffled self.apart (sym c.if-has.ensures),
-        (
-          put_counted ps (vec_items self.counts) c.place.result _ l c.index-mut.ensures.value self.counted p _ c.place.ensures.value said.shuffled,
-          (self.wide, (search rules, (omega arith, (self.some, (self.few, tt))))),
-        ),
-      ),
-    )
+    let said = c.push.ensures in
+    record {
+      heaped = heaped_at by_stamp blank _ said.heaped;
+      apart = put_apart p ps _ said.shuffled self.apart (sym c.if-has.ensures);
+      counted = put_counted ps (vec_items self.counts) c.place.result _ l c.index_mut.ensures.value self.counted p _ c.place.ensures.value said.shuffled;
+      wide = self.wide;
+      reserved = search rules;
+      inside = omega arith;
+      some = self.some;
+      few = self.few;
+    }
 
 pub returns : goal.returns
 returns c =
     let self = c.args.self.now in
     let ps = vec_items self.items in
     let p = c.args.pair in
-    let room = room_tells (sorted ps) self.limit (sym c.in-ok-room.ensures) in
+    let room = room_tells (sorted ps) self.limit (sym c.in_ok-room.ensures) in
     let new = sym c.if-has.ensures in
     let said = put_accepted (sorted ps) self.limit p room (holds_sorted p.stamp ps ∙ new) in
     record { answer = sym said.0; after = put_sorted p ps _ c.push.ensures.shuffled self.apart new ∙ sym said.1; capacity = refl; refused = tt }

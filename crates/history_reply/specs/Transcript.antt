@@ -6,7 +6,6 @@ use Rattle.tick_machine.specs.Machine.{Config, Machine}
 use Rattle.tick_machine.specs.Life.{respond}
 use Rattle.history_text.specs.declared.commands.Command.{Command}
 use Rattle.history_text.specs.declared.faults.Fault.{Fault}
-use Rattle.history_reply.specs.declared.replies.Reply.{Reply}
 use Rattle.history_reply.specs.declared.replies.Reply.TheVariants as reply
 use Rattle.history_text.specs.Cuts.{cut}
 use Rattle.history_text.specs.Readings.{reading}

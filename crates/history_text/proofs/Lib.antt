@@ -2,5 +2,4 @@ pub mod Parting
 pub mod Digitwise
 pub mod Naming
 pub mod KindOf
-pub mod Counting
 pub mod LineRead

@@ -1,5 +1,5 @@
 -- A line read field by field. Assumes nothing.
-use Rattle.std.proofs.Common.{◌≡◌, ℕ, ◌+◌, List, [], ◌∷◌, length, Some, Ok, Err, Option, Result, sym, ap, ◌∙◌, arith}
+use Rattle.std.proofs.Common.{◌≡◌, ℕ, ◌+◌, List, [], ◌∷◌, length, Some, Ok, Err, Result, sym, ap, ◌∙◌, arith}
 use Rattle.history_text.specs.declared.words.Word.{Word}
 use Rattle.history_text.specs.declared.commands.Phase.{Phase}
 use Rattle.history_text.specs.declared.commands.Command.{Command}

@@ -9,7 +9,7 @@ use Rattle.tick_machine.specs.declared.call.Answer.TheVariants.{Made, Opened, Re
 use Rattle.tick_machine.specs.Lists.{none}
 use Rattle.tick_machine.specs.Slots.{round_length}
 use Rattle.tick_machine.specs.Machine.{Config}
-use Rattle.tick_machine.specs.Life.{within, made, adding, with_session, added, drafted, answers}
+use Rattle.tick_machine.specs.Life.{within, adding, with_session, added, drafted, answers}
 use Rattle.link.specs.declared.draft.Draft.{Draft}
 use Rattle.link.specs.declared.link.Link.{Link}
 use Rattle.link.specs.declared.slip.Slip.{Slip}

@@ -1,5 +1,5 @@
 use Rattle.std.proofs.Common.{◌≡◌, [], ◌∷◌, Err, vec_items, subst, rules}
-use Rattle.tick_machine.specs.declared.call.Answer.TheVariants.{Made, Refused}
+use Rattle.tick_machine.specs.declared.call.Answer.TheVariants.{Made}
 use Rattle.tick_machine.specs.Life.{made}
 use Rattle.link.specs.declared.error.MakeError.{MakeError}
 use Rattle.link.specs.Drafting.{Makes}

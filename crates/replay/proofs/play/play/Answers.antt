@@ -1,8 +1,8 @@
 use Rattle.replay.proofs.Living.{granted, plays, refused_plays}
 use Rattle.replay.proofs.play.play.Goals as goal
 
-pub returns-in_ok-slips : goal.returns-in_ok-slips
-returns-in_ok-slips g c =
+pub returns-in_ok-slips-in-Ok : goal.returns-in_ok-slips-in-Ok
+returns-in_ok-slips-in-Ok g c =
     let made = granted g.W.WaitingLine.pairs g.W.WaitingLine.capacity c.args.making c.in-Ok.draft c.in-Ok.ensures in
     plays made c.args.addings.now c.args.calls.now _ _ (c.live-played.ensures made.config made.drafts made.number)
 

@@ -1,10 +1,10 @@
 -- One adding after the other, up to the first that is refused. Assumes nothing.
-use Rattle.std.proofs.Common.{◌≡◌, ℕ, ◌+◌, ◌<◌, ◌≤◌, List, [], ◌∷◌, ◌++◌, length, get_or, take, drop, Ok, Err, Result, sym, refl, ap, ◌∙◌, subst}
+use Rattle.std.proofs.Common.{◌≡◌, ℕ, ◌+◌, ◌<◌, ◌≤◌, List, length, get_or, take, drop, Ok, Err, Result, sym, refl, ap, ◌∙◌, subst}
 use Rattle.std.proofs.lemmas.List.{take_more, drop_more, drop_all}
 use Rattle.waiting_line.specs.declared.pair.Pair.{Pair}
 use Rattle.tick_machine.specs.declared.refusal.Refusal.{Refusal}
 use Rattle.tick_machine.specs.Machine.{Config}
-use Rattle.tick_machine.specs.Life.{adding, added, drafted}
+use Rattle.tick_machine.specs.Life.{added, drafted}
 use Rattle.link.specs.declared.draft.Draft.{Draft}
 use Rattle.link.specs.Drafting.{Drafts, Adds}
 use Rattle.link.proofs.Drafts.{drafted_push}

@@ -1,4 +1,4 @@
-use Rattle.std.proofs.Common.{ℕ, vec_items, ◌∙◌, subst, arith, length-set, rules}
+use Rattle.std.proofs.Common.{ℕ, vec_items, ◌∙◌, subst, arith, rules}
 use Rattle.port.specs.Turns.{TurnedAll}
 use Rattle.port.proofs.Turning.{turned_more}
 use Rattle.port.proofs.turns.turn_all.Goals as goal

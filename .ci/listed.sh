@@ -2,7 +2,7 @@
 # Every folder in crates/ is listed in crates.txt, and every listed crate has a folder.
 set -u
 bad=0
-listed=$(sed -nE 's/^[[:space:]]*([a-z][a-z0-9_]*)[[:space:]]*:.*/\1/p' crates.txt)
+listed=$(sed -nE 's/^[[:space:]]*([a-z][a-z0-9_]*)([[:space:]]+staticlib)?[[:space:]]*:.*/\1/p' crates.txt)
 for folder in crates/*/; do
   name=$(basename "$folder")
   grep -qx "$name" <<<"$listed" || { echo "crates/$name is not listed in crates.txt"; bad=$((bad + 1)); }

@@ -2,8 +2,8 @@
 # Builds the two slot clocks and the driver, and prints a table of times. Not a part of the gate.
 set -e
 cd "$(dirname "$0")/.."
-rt staticlib clock_bench >/dev/null
+(cd crates/clock_bench && rt lib >/dev/null)
 mkdir -p target/bench
-cc -O2 -Wall -Wextra -o target/bench/clocks bench/clocks.c target/staticlib/libclock_bench.a
+cc -O2 -Wall -Wextra -o target/bench/clocks bench/clocks.c crates/clock_bench/out/libclock_bench.a
 echo "best of several runs; load when begun: $(cut -d' ' -f1-3 /proc/loadavg), $(nproc) processors"
 target/bench/clocks

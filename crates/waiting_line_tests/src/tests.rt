@@ -29,28 +29,16 @@ fn told(answer: Result<(), LineRefusal>) -> Option<u64> {
     }
 }
 
-fn play<W: WaitingLine>(rt: &impl Abort, line: &mut W, step: Step) -> Result<(), Fail> {
+// Plays the step with this place in its table.
+fn play<W: WaitingLine>(rt: &impl Abort, line: &mut W, at: u64, step: Step) {
     match step {
-        Step::Room(refusal) => {
-            assert_eq!(rt; told(line.room()), refusal);
-            Ok(())
-        },
+        Step::Room(refusal) => assert_eq!(rt; told(line.room()), refusal, "at {at}"),
         Step::Put(stamp, packet, refusal) => {
-            assert_eq!(rt; told(line.put(Pair { stamp, packet })), refusal);
-            Ok(())
-        },
-        Step::Least(first) => {
-            assert_eq!(rt; line.least(), first);
-            Ok(())
-        },
-        Step::Take(first) => {
-            assert_eq!(rt; line.take(), first);
-            Ok(())
-        },
-        Step::Size(count) => {
-            assert_eq!(rt; line.size(), count);
-            Ok(())
-        },
+            assert_eq!(rt; told(line.put(Pair { stamp, packet })), refusal, "at {at}");
+        }
+        Step::Least(first) => assert_eq!(rt; line.least(), first, "at {at}"),
+        Step::Take(first) => assert_eq!(rt; line.take(), first, "at {at}"),
+        Step::Size(count) => assert_eq!(rt; line.size(), count, "at {at}"),
     }
 }
 
@@ -70,7 +58,7 @@ fn plays<W: WaitingLine + Drop>(
 ) -> Result<(), Fail> {
     let mut line: W = made(heap, capacity)?;
     for (at, step) in steps.iter().enumerate() {
-        play(rt, &mut line, *step).note(at)?;
+        play(rt, &mut line, at as u64, *step);
     }
     Ok(())
 }
@@ -132,19 +120,20 @@ fn one<W: WaitingLine + Drop>(rt: &impl Abort, heap: Global) -> Result<(), Fail>
 fn many<W: WaitingLine + Drop>(rt: &impl Abort, heap: Global) -> Result<(), Fail> {
     let mut line: W = made(heap, 1024)?;
     for i in 0u64..1024 {
-        play(rt, &mut line, Step::Put(i * 389 % 1024 + 1, i, None)).note(i)?;
+        play(rt, &mut line, i, Step::Put(i * 389 % 1024 + 1, i, None));
     }
-    play(rt, &mut line, Step::Put(0, 1024, Some(71)))?;
-    play(rt, &mut line, Step::Size(1024))?;
-    play(rt, &mut line, Step::Take(pair(1, 0)))?;
-    play(rt, &mut line, Step::Put(600, 1024, Some(72)))?;
-    play(rt, &mut line, Step::Put(5000, 1024, None))?;
+    play(rt, &mut line, 1024, Step::Put(0, 1024, Some(71)));
+    play(rt, &mut line, 1025, Step::Size(1024));
+    play(rt, &mut line, 1026, Step::Take(pair(1, 0)));
+    play(rt, &mut line, 1027, Step::Put(600, 1024, Some(72)));
+    play(rt, &mut line, 1028, Step::Put(5000, 1024, None));
     for i in 2u64..1025 {
         let first = line.take();
-        assert!(rt; stamped(first, i), "{}", i);
+        assert!(rt; stamped(first, i), "stamp {i}");
     }
-    play(rt, &mut line, Step::Take(pair(5000, 1024)))?;
-    play(rt, &mut line, Step::Size(0))
+    play(rt, &mut line, 2052, Step::Take(pair(5000, 1024)));
+    play(rt, &mut line, 2053, Step::Size(0));
+    Ok(())
 }
 
 fn stamped(first: Option<Pair>, stamp: u64) -> bool {

@@ -14,10 +14,8 @@ use Rattle.link.specs.Drafting.{Drafts, Makes}
 use Rattle.link.specs.Drafting.{Added as AddsTo}
 use Rattle.history_text.specs.declared.commands.Command.{Command}
 use Rattle.history_text.specs.declared.commands.Command.TheVariants as command
-use Rattle.history_reply.specs.declared.replies.Reply.{Reply}
 use Rattle.history_reply.specs.declared.replies.Reply.TheVariants as reply
 use Rattle.history_reply.specs.Stages.{before, draft, making, obey}
-use Rattle.history.specs.declared.clerk.LinkClerk.{LinkClerk}
 use Rattle.history.specs.declared.clerk.LinkClerk.TheVariants as clerk
 use Rattle.history.specs.Standing.{Went}
 

@@ -6,7 +6,7 @@ use Rattle.history_lines.proofs.Sofars.{answered_ok, too_long, one_line, last_li
 use Rattle.history_lines.proofs.lines.print_history.Goals as goal
 
 pub returns-then-input-gt-LONGEST : goal.returns-then-input-gt-LONGEST
-returns-then-input-gt-LONGEST g c = too_long (string_bytes c.args.out.now) _ c.args.input.now (search rules) c.in-ok-put_reply.ensures
+returns-then-input-gt-LONGEST g c = too_long (string_bytes c.args.out.now) _ c.args.input.now (search rules) c.in_ok-put_reply.ensures
 
 pub loop-line-preserved : goal.loop-line-preserved
 loop-line-preserved g c =
@@ -31,7 +31,7 @@ returns-in-None g c =
     let out = string_bytes l.out in
     let new = string_bytes c.answer_line-last.new.out in
     let one : cut 10 rest ≡ rest ∷ [] = search rules in
-    let told = answered_ok g.C.Clerk.stands l.n s.stage rest out new c.answer_line-last.result.0 c.answer_line-last.result.1 c.in-ok-done.field-0 c.in-ok-done.was (c.answer_line-last.ensures s.stage s.here) in
+    let told = answered_ok g.C.Clerk.stands l.n s.stage rest out new c.answer_line-last.result.0 c.answer_line-last.result.1 c.in_ok-done.field-0 c.in_ok-done.was (c.answer_line-last.ensures s.stage s.here) in
     let e = last_line g.C.Clerk.stands old (printed_lines c.args.input.now) out new rest l.n l.clerk None one s told.1 (c.in-None.ensures (after_line l.n s.stage rest) told.0) in
     ended_in_silence old new c.args.input.now e
 
@@ -46,6 +46,6 @@ returns-in-Some g c =
     let end = string_bytes c.put_reply-in-Some.new.out in
     let reply = c.in-Some.reply in
     let one : cut 10 rest ≡ rest ∷ [] = search rules in
-    let told = answered_ok g.C.Clerk.stands l.n s.stage rest out new c.answer_line-last.result.0 c.answer_line-last.result.1 c.in-ok-done.field-0 c.in-ok-done.was (c.answer_line-last.ensures s.stage s.here) in
+    let told = answered_ok g.C.Clerk.stands l.n s.stage rest out new c.answer_line-last.result.0 c.answer_line-last.result.1 c.in_ok-done.field-0 c.in_ok-done.was (c.answer_line-last.ensures s.stage s.here) in
     let e = last_line g.C.Clerk.stands old (printed_lines c.args.input.now) out new rest l.n l.clerk (Some reply) one s told.1 (c.in-Some.ensures (after_line l.n s.stage rest) told.0) in
     MatchResult-weaker c.put_reply-in-Some.result c.put_reply-in-Some.ensures (λ x h. ended_with_reply old end c.args.input.now new reply e h) (λ y h. reply_missing old end c.args.input.now new reply e h)

@@ -12,7 +12,7 @@ trap 'rm -rf "$copy"' EXIT
 
 # the libraries that the programs may use, and what they use themselves
 libraries='tick_machine heap_order waiting_line slot_clock link'
-mkdir -p "$copy/crates/trial/src" "$copy/target"
+mkdir -p "$copy/crates/trial/src"
 for c in $libraries; do
     mkdir "$copy/crates/$c"
     for part in src specs proofs; do
@@ -21,13 +21,9 @@ for c in $libraries; do
     grep "^$c:" crates.txt >>"$copy/crates.txt"
 done
 echo "trial: $deps" >>"$copy/crates.txt"
-for part in rlib stamp; do
-    [ ! -d "target/$part" ] || cp -r "target/$part" "$copy/target/"
-done
 
 log=$copy/log
-echo 'fn main() {}' >"$copy/crates/trial/src/main.rt"
-if ! (cd "$copy" && "$rt" check link) >"$log" 2>&1; then
+if ! (cd "$copy/crates/link" && "$rt" check) >"$log" 2>&1; then
     tail -n 20 "$log"
     echo 'the libraries are not proved, so that no program can be tried'
     exit 2
@@ -38,7 +34,7 @@ for text in refused_programs/*.txt; do
     name=$(basename "$text" .txt)
     expected=$(sed -n '1s|^// expect: ||p' "$text")
     cp "$text" "$copy/crates/trial/src/main.rt"
-    (cd "$copy" && "$rt" check trial) >"$log" 2>&1
+    (cd "$copy/crates/trial" && "$rt" check) >"$log" 2>&1
     status=$?
     errors=$(grep -o 'error\[[a-z0-9-]*\]' "$log" | sort -u | tr '\n' ' ')
     case $expected in

@@ -43,18 +43,19 @@ fn prints<W: WaitingLine + Drop, S: SlotClock + Drop>(
     heap: Global,
     input: &[u8],
     expected: &str,
+    pair: &str,
 ) -> Result<(), Fail> {
     let mut out = String::new(heap);
     run::<W, S>(heap, input, &mut out)?;
-    assert_eq!(rt; out.as_str(), expected);
+    assert_eq!(rt; out.as_str(), expected, "{pair}");
     Ok(())
 }
 
 fn all_print(rt: &impl Abort, heap: Global, input: &[u8], expected: &str) -> Result<(), Fail> {
-    prints::<HeapLine, StepClock>(rt, heap, input, expected).note("heap, step")?;
-    prints::<HeapLine, JumpClock>(rt, heap, input, expected).note("heap, jump")?;
-    prints::<SortedLine, StepClock>(rt, heap, input, expected).note("sorted, step")?;
-    prints::<SortedLine, JumpClock>(rt, heap, input, expected).note("sorted, jump")
+    prints::<HeapLine, StepClock>(rt, heap, input, expected, "heap, step")?;
+    prints::<HeapLine, JumpClock>(rt, heap, input, expected, "heap, jump")?;
+    prints::<SortedLine, StepClock>(rt, heap, input, expected, "sorted, step")?;
+    prints::<SortedLine, JumpClock>(rt, heap, input, expected, "sorted, jump")
 }
 
 #[test]

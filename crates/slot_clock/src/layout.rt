@@ -3,7 +3,7 @@
 ghost use Rattle.std.specs.Prelude.{◌≡◌, ◌+◌, ◌-◌, ◌*◌, ◌%◌, ◌^◌, ◌<◌, ◌≤◌, true, length};
 ghost use Rattle.tick_machine.specs.Lists.{count};
 ghost use Rattle.tick_machine.specs.Slots.{round_length, holder, owner};
-ghost use Rattle.slot_clock.specs.Layout.{marked, counted, whole as weight-of, part, place};
+ghost use Rattle.slot_clock.specs.Layout.{marked, counted, whole as whole_weight, part, place};
 
 fn holder_of(weights: &[u64], position: u64) -> usize
     requires { position < round_length weights.now }
@@ -33,7 +33,7 @@ pub fn owner_of(weights: &[u64], round: u64, slot: u64) -> usize
 fn weight_of(weights: &[u64], mask: &[bool]) -> u64
     requires small { round_length weights.now ≤ 4096 }
     requires same { length weights.now ≤ length mask.now }
-    ensures { result ≡ weight-of (marked mask.now) 0 weights.now }
+    ensures { result ≡ whole_weight (marked mask.now) 0 weights.now }
 {
     let mut sum = 0;
     for i in 0..weights.len() {
@@ -65,7 +65,7 @@ fn part_of(weights: &[u64], mask: &[bool], position: u64) -> u64
 fn place_of(weights: &[u64], mask: &[bool], before: u64) -> u64
     requires small { round_length weights.now ≤ 4096 }
     requires same { length weights.now ≤ length mask.now }
-    requires fewer { before < weight-of (marked mask.now) 0 weights.now }
+    requires fewer { before < whole_weight (marked mask.now) 0 weights.now }
     ensures { result ≡ place (marked mask.now) 0 weights.now before }
 {
     let mut start = 0;

@@ -1,6 +1,6 @@
 // The records that cross to C. C has no enums that hold numbers, so a kind says which call or answer a record is.
 
-// A call: its kind and what it takes. `call-in` of specs/Records says what each kind means.
+// A call: its kind and what it takes. `call_in` of specs/Records says what each kind means.
 #[repr(C)]
 #[derive(Clone, Copy, PartialEq, Eq, Debug)]
 pub struct CallRecord {

@@ -1,4 +1,4 @@
-// Why a slot clock refuses a call. `clock-number` of specs/Refusals gives each its number.
+// Why a slot clock refuses a call. `clock_number` of specs/Refusals gives each its number.
 ghost use Rattle.std.specs.Prelude.{◌≡◌};
 ghost use Rattle.slot_clock.specs.Refusals.{clock_number};
 

@@ -1,6 +1,5 @@
 -- What a link shows when its line takes a packet. Assumes nothing.
-use Rattle.std.proofs.Common.{◌≡◌, ℕ, ◌<◌, ◌≤◌, List, [], ◌∷◌, map, length, get_or, Some, vec_items, vec_len, sym, refl, ap, ◌∙◌, subst, arith}
-use Rattle.std.proofs.lemmas.List.{get_or_default}
+use Rattle.std.proofs.Common.{◌≡◌, ℕ, ◌≤◌, List, [], ◌∷◌, map, get_or, Some, vec_items, vec_len, sym, refl, ap, ◌∙◌, subst, arith}
 use Rattle.std.specs.List.{remove}
 use Rattle.tick_machine.specs.declared.packet.Packet.{Packet}
 use Rattle.tick_machine.specs.declared.packet.Line.{Line}
@@ -13,11 +12,11 @@ use Rattle.waiting_line.specs.declared.pair.Pair.{Pair}
 use Rattle.waiting_line.specs.Lines.{first, rest}
 use Rattle.slot_clock.specs.State.{SlotState}
 use Rattle.link.specs.declared.link.Link.{Link}
-use Rattle.link.specs.Places.{packet_number, At, Nowhere}
+use Rattle.link.specs.Places.{At, Nowhere}
 use Rattle.link.specs.Stretch.{loaded}
 use Rattle.link.specs.Orderly.{Orderly, Apart}
 use Rattle.link.specs.Shown.{pair, by_number, Shown}
-use Rattle.link.proofs.Tables.{by_number_found, by_number_there}
+use Rattle.link.proofs.Tables.{number, by_number_found, by_number_there}
 
 -- a free line with packets waiting: the first of them, and what a load makes of it
 record Next (clock : ℕ) (l : Line) (ws : List Packet) (t : Pair) : Type 0 where
@@ -47,18 +46,15 @@ module _ {W S : Type 0} {pairs : W → List Pair} {capacity : W → ℕ} {state 
   named = ap (λ (x : Pair). x.packet) n.named
 
   -- it stands in the table
-  pub load_there : (items : List Packet) → items ≡ vec_items l.table → Nowhere packet_number t.packet items → ⊥
-  load_there items e h = by_number_there n.it n.others (subst (λ k. Nowhere packet_number k (by_number (n.it ∷ n.others))) named (subst (Nowhere packet_number t.packet) (e ∙ table) h))
+  pub load_there : (items : List Packet) → items ≡ vec_items l.table → Nowhere number t.packet items → ⊥
+  load_there items e h = by_number_there n.it n.others (subst (λ k. Nowhere number k (by_number (n.it ∷ n.others))) named (subst (Nowhere number t.packet) (e ∙ table) h))
 
-  module _ (items : List Packet) (e : items ≡ vec_items l.table) (i : ℕ) (at : At packet_number t.packet items i) (p : Packet) (is : p ≡ get_or (vec_items l.table) i p) where
-    stands : (get_or (by_number (n.it ∷ n.others)) i packet_number.blank ≡ n.it) × (remove (by_number (n.it ∷ n.others)) i ≡ by_number n.others)
-    stands = by_number_found n.it n.others i lone (subst (λ k. At packet_number k (by_number (n.it ∷ n.others)) i) named (subst (λ xs. At packet_number t.packet xs i) (e ∙ table) at))
-
-    within : i < length (vec_items l.table)
-    within = subst (λ xs. i < length xs) e at.within
+  module _ (items : List Packet) (e : items ≡ vec_items l.table) (i : ℕ) (at : At number t.packet items i) (p : Packet) (is : p ≡ get_or (vec_items l.table) i p) where
+    stands : (get_or (by_number (n.it ∷ n.others)) i p ≡ n.it) × (remove (by_number (n.it ∷ n.others)) i ≡ by_number n.others)
+    stands = by_number_found n.it n.others i p lone (subst (λ k. At number k (by_number (n.it ∷ n.others)) i) named (subst (λ xs. At number t.packet xs i) (e ∙ table) at))
 
     same : p ≡ n.it
-    same = is ∙ get_or_default (vec_items l.table) i p packet_number.blank within ∙ ap (λ xs. get_or xs i packet_number.blank) table ∙ stands.0
+    same = is ∙ ap (λ xs. get_or xs i p) table ∙ stands.0
 
     pub load_some : 1 ≤ p.size
     load_some = subst (λ (q : Packet). 1 ≤ q.size) (sym same) (head (subst (All (λ q. 1 ≤ q.size)) n.waits o.sized))

@@ -28,7 +28,7 @@ makes ws some few weighty light =
 
 module _ {W S : Type 0} {pairs : W → List Pair} {capacity : W → ℕ} {state : S → SlotState} {c : Config} (d : Draft W) (h : Drafts pairs capacity c d) where
   pub opens : (items : List ℕ) → items ≡ vec_items d.weights → (slots : S) → Ok (state slots) ≡ made_answer items
-      → (l : Link W S) → Opened d.waiting slots d.number d.largest d.sessions d.table d.left d.out l → Opens pairs capacity state c l d.round
+      → (l : Link W S) → Opened d slots l → Opens pairs capacity state c l d.round
   opens items e slots made l o =
       let ws = c.weights in
       let many : vec_len d.weights ≡ length ws = d.weights.ok.0 ∙ ap length h.weights_are in

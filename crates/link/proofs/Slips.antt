@@ -6,41 +6,44 @@ use Rattle.tick_machine.specs.declared.packet.Departed.{Departed}
 use Rattle.tick_machine.specs.declared.refusal.Refusal.{Refusal}
 use Rattle.tick_machine.specs.declared.refusal.Refusal.TheVariants.{OtherLink, NotOut}
 use Rattle.tick_machine.specs.declared.call.Call.{Call}
-use Rattle.tick_machine.specs.declared.call.Call.TheVariants.{Collect, File, Return}
-use Rattle.tick_machine.specs.declared.call.Answer.TheVariants.{Collected, Filed, Returned}
+use Rattle.tick_machine.specs.declared.call.Call.TheVariants.{Collect}
+use Rattle.tick_machine.specs.declared.call.Settlement.{Settlement}
+use Rattle.tick_machine.specs.declared.call.Settlement.TheVariants as how
+use Rattle.tick_machine.specs.declared.call.Answer.TheVariants.{Collected}
 use Rattle.tick_machine.specs.Desk.{Desk, first, rest, handed, slip, among, without, hand_out, file, return}
 use Rattle.tick_machine.specs.Machine.{Config, Machine, with_desk}
-use Rattle.tick_machine.specs.Life.{settlement, slip_of, told, filed, returned, steps, if_granted, after}
+use Rattle.tick_machine.specs.Life.{settlement, settling, granted, slip_of, told, answer, Event, filed, returned, step, steps, happens, if_granted, after}
+use Rattle.tick_machine.specs.Law.{Lawful}
 use Rattle.tick_machine.specs.Books.{TotalsAddUp}
 use Rattle.tick_machine.proofs.Stands.{totals_do_add_up, after_calls}
 use Rattle.waiting_line.specs.declared.pair.Pair.{Pair}
 use Rattle.slot_clock.specs.State.{SlotState}
 use Rattle.link.specs.declared.link.Link.{Link}
 use Rattle.link.specs.declared.slip.Slip.{Slip}
-use Rattle.link.specs.Places.{At, Nowhere, itself}
+use Rattle.link.specs.Places.{At, Nowhere}
 use Rattle.link.specs.Shown.{Shown}
-use Rattle.link.specs.Promise.{collected_as, settled, Led, Goes}
+use Rattle.link.specs.Promise.{is_refused, collected_as, settled, Led, Goes}
 use Rattle.link.proofs.Tables.{none_there}
 use Rattle.link.proofs.Reached.{lawful, reached_small}
 
 -- what stands somewhere is among them, and is taken out there
-later : (k x : ℕ) (xs : List ℕ) (i : ℕ) → At itself k (x ∷ xs) (suc i) → At itself k xs i
-later k x xs i a = record { within = omega (arith, a.within); here = a.here; before = λ j l. a.before (suc j) (omega arith) }
+later : (k x : ℕ) (xs : List ℕ) (i : ℕ) → At (λ n. n) k (x ∷ xs) (suc i) → At (λ n. n) k xs i
+later k x xs i a = record { within = omega (arith, a.within); here = a.here; before = λ j d l. a.before (suc j) d (omega arith) }
 
-pub at_among : (k : ℕ) (xs : List ℕ) (i : ℕ) → At itself k xs i → among k xs ≡ true
+pub at_among : (k : ℕ) (xs : List ℕ) (i : ℕ) → At (λ n. n) k xs i → among k xs ≡ true
 at_among k [] i a = absurd (omega (arith, a.within))
-at_among k (x ∷ xs) zero a = or_left _ _ (eq-eqb _ _ a.here)
+at_among k (x ∷ xs) zero a = or_left _ _ (eq-eqb _ _ (a.here x))
 at_among k (x ∷ xs) (suc i) a = or_right _ _ (at_among k xs i (later k x xs i a))
 
-pub at_without : (k : ℕ) (xs : List ℕ) (i : ℕ) → At itself k xs i → remove xs i ≡ without k xs
+pub at_without : (k : ℕ) (xs : List ℕ) (i : ℕ) → At (λ n. n) k xs i → remove xs i ≡ without k xs
 at_without k [] i a = absurd (omega (arith, a.within))
-at_without k (x ∷ xs) zero a = sym (cond-true (eqb x k) xs (x ∷ without k xs) (eq-eqb _ _ a.here))
+at_without k (x ∷ xs) zero a = sym (cond-true (eqb x k) xs (x ∷ without k xs) (eq-eqb _ _ (a.here x)))
 at_without k (x ∷ xs) (suc i) a =
-    ap (λ ys. x ∷ ys) (at_without k xs i (later k x xs i a)) ∙ sym (cond-false (eqb x k) xs (x ∷ without k xs) (ne_eqb _ _ (a.before 0 (omega arith))))
+    ap (λ ys. x ∷ ys) (at_without k xs i (later k x xs i a)) ∙ sym (cond-false (eqb x k) xs (x ∷ without k xs) (ne_eqb _ _ (a.before 0 x (omega arith))))
 
-pub nowhere_among : (k : ℕ) (xs : List ℕ) → Nowhere itself k xs → among k xs ≡ false
+pub nowhere_among : (k : ℕ) (xs : List ℕ) → Nowhere (λ n. n) k xs → among k xs ≡ false
 nowhere_among k [] h = refl
-nowhere_among k (x ∷ xs) h = or_from _ _ (ne_eqb _ _ (h 0 (omega arith))) (nowhere_among k xs (λ j l. h (suc j) (omega arith)))
+nowhere_among k (x ∷ xs) h = or_from _ _ (ne_eqb _ _ (h 0 x (omega arith))) (nowhere_among k xs (λ j d l. h (suc j) d (omega arith)))
 
 -- the two checks of a settlement
 pub other_link : (c : Config) (link k : ℕ) (m : Machine) → (link ≡ c.link → ⊥) → settlement c link k m ≡ Err OtherLink
@@ -51,6 +54,34 @@ not_out c link k m e a = cond-true (eqb link c.link) _ _ (eq-eqb _ _ e) ∙ cond
 
 pub is_out : (c : Config) (link k : ℕ) (m : Machine) → link ≡ c.link → among k m.desk.out ≡ true → settlement c link k m ≡ Ok k
 is_out c link k m e a = cond-true (eqb link c.link) _ _ (eq-eqb _ _ e) ∙ cond-true (among k m.desk.out) _ _ a
+
+-- what a settlement does, where it is granted
+abbrev closing : Settlement → ℕ → Event
+closing how.File k = filed k
+closing how.Return k = returned k
+
+happens_settling : (w : Settlement) (c : Config) (link k : ℕ) (m : Machine) → happens c m (settling w link k) ≡ if_granted (settlement c link k m) (closing w k ∷ [])
+happens_settling how.File c link k m = refl
+happens_settling how.Return c link k m = refl
+
+answer_settling : (w : Settlement) (c : Config) (link k : ℕ) (m : Machine) → answer c m (settling w link k) ≡ told (granted w) (settlement c link k m)
+answer_settling how.File c link k m = refl
+answer_settling how.Return c link k m = refl
+
+not_refused : (w : Settlement) (k : ℕ) → is_refused (granted w k) ≡ true → ⊥
+not_refused how.File k q = let y : ◌≡◌ {A = ℕ} 0 1 = cc in omega arith
+not_refused how.Return k q = let y : ◌≡◌ {A = ℕ} 0 1 = cc in omega arith
+
+-- one more is counted
+abbrev pub Counted : {W S : Type 0} → Settlement → Link W S → Link W S → Type 0
+Counted how.File l l' = (l'.filed ≡ min (l.filed + 1) 18446744073709551615) × (l'.returned ≡ l.returned)
+Counted how.Return l l' = (l'.filed ≡ l.filed) × (l'.returned ≡ min (l.returned + 1) 18446744073709551615)
+
+pub counted_filed : {W S : Type 0} (l l' : Link W S) (w : Settlement) → w ≡ how.File → l'.filed ≡ min (l.filed + 1) 18446744073709551615 → l'.returned ≡ l.returned → Counted w l l'
+counted_filed l l' w e f r = subst (λ x. Counted x l l') (sym e) (f, r)
+
+pub counted_returned : {W S : Type 0} (l l' : Link W S) (w : Settlement) → w ≡ how.Return → l'.filed ≡ l.filed → l'.returned ≡ min (l.returned + 1) 18446744073709551615 → Counted w l l'
+counted_returned l l' w e f r = subst (λ x. Counted x l l') (sym e) (f, r)
 
 -- the first of the left list
 record First (ds : List Departed) (d : Departed) : Type 0 where
@@ -126,47 +157,39 @@ module _ {W S : Type 0} {pairs : W → List Pair} {capacity : W → ℕ} {state 
       let b = reached_small c h.drafted calls in
       (omega (arith, t, b.count, b.clock), omega (arith, t, b.count, b.clock))
 
-  module _ (link k : ℕ) where
-    pub file_refused : (e : Refusal) (s : Slip) → settlement c link k (after c calls) ≡ Err e → Goes pairs capacity state c calls l (File link k) (settled Filed (Err (e, s))) l
-    file_refused e s v = record {
-      led = record { drafted = h.drafted; shown = subst (λ (r : Result ℕ Refusal). Shown pairs capacity state c (steps c (if_granted r (filed k ∷ [])) (after c calls)) l) (sym v) h.shown };
-      told = ap (told Filed) (sym v);
+  module _ (link k : ℕ) (w : Settlement) where
+    settled_law : Lawful c (settling w link k ∷ calls)
+    settled_law = lawful c h.drafted (settling w link k ∷ calls)
+
+    -- what a settlement does, and what is said of it
+    does : (r : Result ℕ Refusal) → settlement c link k (after c calls) ≡ r → steps c (if_granted r (closing w k ∷ [])) (after c calls) ≡ after c (settling w link k ∷ calls)
+    does r v = ap (λ es. steps c es (after c calls)) (sym (happens_settling w c link k (after c calls) ∙ ap (λ x. if_granted x (closing w k ∷ [])) v))
+
+    says : (r : Result ℕ Refusal) → settlement c link k (after c calls) ≡ r → told (granted w) r ≡ answer c (after c calls) (settling w link k)
+    says r v = sym (answer_settling w c link k (after c calls) ∙ ap (told (granted w)) v)
+
+    pub settle_refused : (e : Refusal) (s : Slip) → settlement c link k (after c calls) ≡ Err e → Goes pairs capacity state c calls l (settling w link k) (settled (granted w) (Err (e, s))) l
+    settle_refused e s v = record {
+      led = record { drafted = h.drafted; shown = subst (λ m. Shown pairs capacity state c m l) (does (Err e) v) h.shown };
+      told = says (Err e) v;
       kept = λ q. refl;
-      law = lawful c h.drafted (File link k ∷ calls);
+      law = settled_law;
     }
 
-    pub return_refused : (e : Refusal) (s : Slip) → settlement c link k (after c calls) ≡ Err e → Goes pairs capacity state c calls l (Return link k) (settled Returned (Err (e, s))) l
-    return_refused e s v = record {
-      led = record { drafted = h.drafted; shown = subst (λ (r : Result ℕ Refusal). Shown pairs capacity state c (steps c (if_granted r (returned k ∷ [])) (after c calls)) l) (sym v) h.shown };
-      told = ap (told Returned) (sym v);
-      kept = λ q. refl;
-      law = lawful c h.drafted (Return link k ∷ calls);
-    }
-
-    module _ (v : settlement c link k (after c calls) ≡ Ok k) (i : ℕ) (at : At itself k (vec_items l.out) i) (l' : Link W S) (eo : vec_items l'.out ≡ remove (vec_items l.out) i) (ef : l'.left ≡ l.left)
+    module _ (v : settlement c link k (after c calls) ≡ Ok k) (i : ℕ) (at : At (λ n. n) k (vec_items l.out) i) (l' : Link W S) (eo : vec_items l'.out ≡ remove (vec_items l.out) i) (ef : l'.left ≡ l.left)
         (ew : l'.waiting ≡ l.waiting) (es : l'.slots ≡ l.slots) (en : l'.number ≡ l.number) (em : l'.largest ≡ l.largest) (ev : l'.sessions ≡ l.sessions) (ek : l'.clock ≡ l.clock) (ei : l'.count ≡ l.count)
         (el : l'.line ≡ l.line) (et : l'.table ≡ l.table) where
       out_is : vec_items l'.out ≡ without k (after c calls).desk.out
       out_is = eo ∙ at_without k (vec_items l.out) i at ∙ ap (without k) h.shown.out_is
 
-      pub file_goes : l'.filed ≡ min (l.filed + 1) 18446744073709551615 → l'.returned ≡ l.returned → Goes pairs capacity state c calls l (File link k) (settled Filed (Ok k)) l'
-      file_goes eg er =
-          let shown : Shown pairs capacity state c (with_desk (file k) (after c calls)) l'
-          = desk_shown (file k) l' (ap vec_items ef ∙ h.shown.left_is) out_is (omega (arith, few.0, h.shown.filed_is)) (er ∙ h.shown.returned_is) ew es en em ev ek ei el et in
-          record {
-            led = record { drafted = h.drafted; shown = subst (λ (r : Result ℕ Refusal). Shown pairs capacity state c (steps c (if_granted r (filed k ∷ [])) (after c calls)) l') (sym v) shown };
-            told = ap (told Filed) (sym v);
-            kept = λ q. let y : ◌≡◌ {A = ℕ} 0 1 = cc in absurd (omega arith);
-            law = lawful c h.drafted (File link k ∷ calls);
-          }
+      closed : (v : Settlement) → Counted v l l' → Shown pairs capacity state c (step c (closing v k) (after c calls)) l'
+      closed how.File n = desk_shown (file k) l' (ap vec_items ef ∙ h.shown.left_is) out_is (omega (arith, few.0, h.shown.filed_is, n.0)) (n.1 ∙ h.shown.returned_is) ew es en em ev ek ei el et
+      closed how.Return n = desk_shown (return k) l' (ap vec_items ef ∙ h.shown.left_is) out_is (n.0 ∙ h.shown.filed_is) (omega (arith, few.1, h.shown.returned_is, n.1)) ew es en em ev ek ei el et
 
-      pub return_goes : l'.filed ≡ l.filed → l'.returned ≡ min (l.returned + 1) 18446744073709551615 → Goes pairs capacity state c calls l (Return link k) (settled Returned (Ok k)) l'
-      return_goes eg er =
-          let shown : Shown pairs capacity state c (with_desk (return k) (after c calls)) l'
-          = desk_shown (return k) l' (ap vec_items ef ∙ h.shown.left_is) out_is (eg ∙ h.shown.filed_is) (omega (arith, few.1, h.shown.returned_is)) ew es en em ev ek ei el et in
-          record {
-            led = record { drafted = h.drafted; shown = subst (λ (r : Result ℕ Refusal). Shown pairs capacity state c (steps c (if_granted r (returned k ∷ [])) (after c calls)) l') (sym v) shown };
-            told = ap (told Returned) (sym v);
-            kept = λ q. let y : ◌≡◌ {A = ℕ} 0 1 = cc in absurd (omega arith);
-            law = lawful c h.drafted (Return link k ∷ calls);
-          }
+      pub settle_goes : Counted w l l' → Goes pairs capacity state c calls l (settling w link k) (settled (granted w) (Ok k)) l'
+      settle_goes n = record {
+        led = record { drafted = h.drafted; shown = subst (λ m. Shown pairs capacity state c m l') (does (Ok k) v) (closed w n) };
+        told = says (Ok k) v;
+        kept = λ q. absurd (not_refused w k q);
+        law = settled_law;
+      }

@@ -5,10 +5,10 @@ use Rattle.std.specs.List.{remove}
 use Rattle.tick_machine.specs.declared.packet.Packet.{Packet}
 use Rattle.tick_machine.specs.Lists.{total, All, none, more, insert}
 use Rattle.tick_machine.proofs.Lists.{head, tail, all_insert, total_insert, length_insert}
-use Rattle.link.specs.Places.{packet_number, At, Nowhere}
+use Rattle.link.specs.Places.{At, Nowhere}
 use Rattle.link.specs.Shown.{by_number}
 
-abbrev number : Packet → ℕ
+abbrev pub number : Packet → ℕ
 number p = p.number
 
 pub all_by_number : {P : Packet → Type 0} (ws : List Packet) → All P ws → All P (by_number ws)
@@ -74,9 +74,9 @@ found p (x ∷ xs) d h i =
     (λ _. stands_first p (x ∷ xs) i d h)
     (λ _. stands_later p x (insert number p xs) xs i d (head h) (found p xs d (tail h)))
 
-pub by_number_found : (p : Packet) (ws : List Packet) (i : ℕ) → All (λ q. q.number ≡ p.number → ⊥) ws → At packet_number p.number (by_number (p ∷ ws)) i
-    → (get_or (by_number (p ∷ ws)) i packet_number.blank ≡ p) × (remove (by_number (p ∷ ws)) i ≡ by_number ws)
-by_number_found p ws i h a = found p (by_number ws) packet_number.blank (all_by_number ws h) i a.within a.here
+pub by_number_found : (p : Packet) (ws : List Packet) (i : ℕ) (d : Packet) → All (λ q. q.number ≡ p.number → ⊥) ws → At number p.number (by_number (p ∷ ws)) i
+    → (get_or (by_number (p ∷ ws)) i d ≡ p) × (remove (by_number (p ∷ ws)) i ≡ by_number ws)
+by_number_found p ws i d h a = found p (by_number ws) d (all_by_number ws h) i a.within (a.here d)
 
 -- and it does stand there
 there : (p : Packet) (xs : List Packet) (d : Packet) → ((k : ℕ) → k < length (insert number p xs) → (get_or (insert number p xs) k d).number ≡ p.number → ⊥) → ⊥
@@ -87,5 +87,5 @@ there p (x ∷ xs) d h =
     (λ _ f. f 0 (omega arith) refl)
     (λ _ f. there p xs d (λ k l e. f (suc k) (omega arith) e)) h
 
-pub by_number_there : (p : Packet) (ws : List Packet) → Nowhere packet_number p.number (by_number (p ∷ ws)) → ⊥
-by_number_there p ws h = there p (by_number ws) packet_number.blank h
+pub by_number_there : (p : Packet) (ws : List Packet) → Nowhere number p.number (by_number (p ∷ ws)) → ⊥
+by_number_there p ws h = there p (by_number ws) p (λ k. h k p)

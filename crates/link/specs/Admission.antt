@@ -1,10 +1,8 @@
 -- The checks of an arrival, apart from what is offered. Assumes nothing.
 use Rattle.std.specs.Prelude.{ℕ, cond, length, Ok, Err, Result, nat_le, nat_lt}
-use Rattle.slot_clock.specs.declared.refusal.ClockRefusal.{ClockRefusal}
-use Rattle.slot_clock.specs.declared.refusal.ClockRefusal.TheVariants as clock
 use Rattle.tick_machine.specs.declared.refusal.LineRefusal.TheVariants.{Full}
 use Rattle.tick_machine.specs.declared.refusal.Refusal.{Refusal}
-use Rattle.tick_machine.specs.declared.refusal.Refusal.TheVariants.{TooManySessions, TooMuchWeight, UnknownSession, Empty, TooLong, NoRoom, TooManyUnsettled, PastTheEnd}
+use Rattle.tick_machine.specs.declared.refusal.Refusal.TheVariants.{UnknownSession, Empty, TooLong, NoRoom, TooManyUnsettled}
 use Rattle.tick_machine.specs.Machine.{Config, Machine}
 use Rattle.tick_machine.specs.Life.{unsettled}
 
@@ -22,12 +20,3 @@ admission c i n m =
     (Err TooLong))
     (Err Empty))
     (Err UnknownSession)
-
--- a slot clock's refusal as the link's own that is nearest to it; in no history does a link meet one
-abbrev pub nearest : ClockRefusal → Refusal
-nearest clock.Sessions = TooManySessions
-nearest clock.Weights = TooMuchWeight
-nearest clock.UnknownSession = UnknownSession
-nearest clock.Size = TooLong
-nearest clock.TooMuchOwed = TooManyUnsettled
-nearest clock.TicksPastEnd = PastTheEnd

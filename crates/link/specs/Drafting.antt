@@ -27,10 +27,10 @@ module _ {W : Type 0} (pairs : W → List Pair) (capacity : W → ℕ) where
   abbrev pub Makes : Result Config Refusal → Result (Draft W) MakeError → Type 0
   Makes (Ok c) (Ok d) = Drafts c d
   Makes (Ok c) (Err (Refused e)) = ⊥
-  Makes (Ok c) (Err NoMemory) = Unit {0}
+  Makes (Ok c) (Err (NoMemory e)) = Unit {0}
   Makes (Err x) (Ok d) = ⊥
   Makes (Err x) (Err (Refused e)) = e ≡ x
-  Makes (Err x) (Err NoMemory) = ⊥
+  Makes (Err x) (Err (NoMemory e)) = ⊥
 
   -- an adding, whatever configuration it is a draft of: the answer, the draft after it, and no change where it is refused
   pub record Adds (c : Config) (d : Draft W) (weight : ℕ) (r : Result ℕ Refusal) (d' : Draft W) : Type 0 where

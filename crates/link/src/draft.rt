@@ -8,16 +8,16 @@ use tick_machine::packet::{Departed, Packet};
 
 #[derive(Drop)]
 pub struct Draft<W> {
-    waiting: W,
-    number: u64,
-    largest: u64,
+    pub(crate) waiting: W,
+    pub(crate) number: u64,
+    pub(crate) largest: u64,
     // the sum of the weights
-    round: u64,
-    weights: Vec<u64>,
-    sessions: Vec<Session>,
-    table: Vec<Packet>,
-    left: Vec<Departed>,
-    out: Vec<u64>,
+    pub(crate) round: u64,
+    pub(crate) weights: Vec<u64>,
+    pub(crate) sessions: Vec<Session>,
+    pub(crate) table: Vec<Packet>,
+    pub(crate) left: Vec<Departed>,
+    pub(crate) out: Vec<u64>,
     ghost weighted: { 64 ≤ vec_capacity weights },
     ghost recorded: { 64 ≤ vec_capacity sessions },
     ghost tabled: { 1024 ≤ vec_capacity table },

@@ -10,7 +10,7 @@ use waiting_line::refusal::MakeRefusal;
 #[derive(Clone, Copy, PartialEq, Eq, Debug)]
 pub enum MakeError {
     Refused(Refusal),
-    NoMemory,
+    NoMemory(AllocError),
 }
 
 impl From<Refusal> for MakeError {
@@ -22,10 +22,10 @@ impl From<Refusal> for MakeError {
 }
 
 impl From<AllocError> for MakeError {
-    ghost from_gives = { λ _ r. r ≡ NoMemory };
+    ghost from_gives = { λ e r. r ≡ NoMemory e };
 
-    fn from(_e: AllocError) -> MakeError {
-        MakeError::NoMemory
+    fn from(e: AllocError) -> MakeError {
+        MakeError::NoMemory(e)
     }
 }
 
@@ -35,7 +35,7 @@ impl From<MakeRefusal> for MakeError {
     fn from(e: MakeRefusal) -> MakeError {
         match e {
             MakeRefusal::Capacity => MakeError::Refused(Refusal::Capacity),
-            MakeRefusal::NoMemory => MakeError::NoMemory,
+            MakeRefusal::NoMemory => MakeError::NoMemory(AllocError),
         }
     }
 }

@@ -7,7 +7,6 @@ pub mod draft;
 pub mod error;
 mod limits;
 pub mod link;
-mod refusal;
 pub mod session;
 pub mod slip;
 mod table;

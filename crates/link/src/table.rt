@@ -1,29 +1,48 @@
 // Looking numbers up.
-ghost use Rattle.std.specs.Prelude.{◌≡◌, ℕ, ◌<◌, length, MatchOption};
-ghost use Rattle.link.specs.Places.{At, Nowhere, packet_number, itself};
+ghost use Rattle.std.specs.Prelude.{◌≡◌, ℕ, MatchOption};
+ghost use Rattle.link.specs.Places.{At, Nowhere};
 
+use crate::slip::Slip;
 use tick_machine::packet::Packet;
 
-// Where the packet of the number stands.
-pub fn place(table: &[Packet], number: u64) -> Option<usize>
-    ensures { MatchOption result (Nowhere packet_number number table.now) (λ i. At packet_number number table.now i) }
-{
-    for (i, packet) in table.iter().enumerate() {
-        if packet.number == number {
-            return Some(i);
-        }
-    }
-    None
+// What has a number by which it is found.
+pub trait Numbered {
+    ghost numbered: { Self → ℕ };
+
+    fn number(&self) -> u64
+        ensures { result ≡ numbered self.now };
 }
 
-// Where the number stands.
-pub fn place_of(numbers: &[u64], number: u64) -> Option<usize>
-    ensures { MatchOption result (Nowhere itself number numbers.now) (λ i. At itself number numbers.now i) }
-{
-    for (i, x) in numbers.iter().enumerate() {
-        if *x == number {
-            return Some(i);
-        }
+// A packet's number.
+impl Numbered for Packet {
+    ghost numbered = { λ p. p.number };
+
+    fn number(&self) -> u64 {
+        self.number
     }
-    None
+}
+
+// A packet's number stands for itself.
+impl Numbered for u64 {
+    ghost numbered = { λ n. n };
+
+    fn number(&self) -> u64 {
+        *self
+    }
+}
+
+// The number of the slip's packet.
+impl Numbered for Slip {
+    ghost numbered = { λ s. s.says.packet };
+
+    fn number(&self) -> u64 {
+        self.copy().packet
+    }
+}
+
+// Where the number first stands.
+pub fn place<T: Numbered>(items: &[T], number: u64) -> Option<usize>
+    ensures { MatchOption result (Nowhere T.Numbered.numbered number items.now) (λ i. At T.Numbered.numbered number items.now i) }
+{
+    items.iter().position(|x| x.number() == number)
 }

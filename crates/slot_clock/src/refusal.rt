@@ -1,6 +1,8 @@
 // Why a slot clock refuses a call. `clock_number` of specs/Refusals gives each its number.
 ghost use Rattle.std.specs.Prelude.{◌≡◌};
-ghost use Rattle.slot_clock.specs.Refusals.{clock_number};
+ghost use Rattle.slot_clock.specs.Refusals.{clock_number, nearest};
+
+use tick_machine::refusal::Refusal;
 
 #[derive(Clone, Copy, PartialEq, Eq, Debug)]
 pub enum ClockRefusal {
@@ -26,6 +28,22 @@ impl ClockRefusal {
             ClockRefusal::Size => 84,
             ClockRefusal::TooMuchOwed => 85,
             ClockRefusal::TicksPastEnd => 86,
+        }
+    }
+}
+
+// A slot clock's refusal as the link's own that is nearest to it. In no history does a link meet one.
+impl From<ClockRefusal> for Refusal {
+    ghost from_gives = { λ e r. r ≡ nearest e };
+
+    fn from(e: ClockRefusal) -> Refusal {
+        match e {
+            ClockRefusal::Sessions => Refusal::TooManySessions,
+            ClockRefusal::Weights => Refusal::TooMuchWeight,
+            ClockRefusal::UnknownSession => Refusal::UnknownSession,
+            ClockRefusal::Size => Refusal::TooLong,
+            ClockRefusal::TooMuchOwed => Refusal::TooManyUnsettled,
+            ClockRefusal::TicksPastEnd => Refusal::PastTheEnd,
         }
     }
 }

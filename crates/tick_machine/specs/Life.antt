@@ -6,6 +6,8 @@ use Rattle.tick_machine.specs.declared.refusal.Refusal.{Refusal}
 use Rattle.tick_machine.specs.declared.refusal.Refusal.TheVariants.{LinkNumber, Largest, Capacity, FirstWeight, Weight, TooManySessions, TooMuchWeight, UnknownSession, Empty, TooLong, NoRoom, TooManyUnsettled, TickPassed, PastTheEnd, OtherLink, NotOut}
 use Rattle.tick_machine.specs.declared.call.Call.{Call}
 use Rattle.tick_machine.specs.declared.call.Call.TheVariants.{Arrive, MoveTo, Collect, File, Return, AskFigures, AskTotals}
+use Rattle.tick_machine.specs.declared.call.Settlement.{Settlement}
+use Rattle.tick_machine.specs.declared.call.Settlement.TheVariants as how
 use Rattle.tick_machine.specs.declared.call.Figures.{Figures}
 use Rattle.tick_machine.specs.declared.call.Totals.{Totals}
 use Rattle.tick_machine.specs.declared.call.Answer.{Answer}
@@ -104,6 +106,15 @@ settlement c link number m =
     cond (link == c.link)
     (cond (among number m.desk.out) (Ok number) (Err NotOut))
     (Err OtherLink)
+
+-- a settlement so, as a call, and as the answer where it is granted
+abbrev pub settling : Settlement → ℕ → ℕ → Call
+settling how.File link number = File link number
+settling how.Return link number = Return link number
+
+abbrev pub granted : Settlement → ℕ → Answer
+granted how.File number = Filed number
+granted how.Return number = Returned number
 
 -- FIGURES of session i
 abbrev pub figures_of : ℕ → Machine → Figures

@@ -1,4 +1,4 @@
-// The calls of an open link, and every answer in a link's life.
+// What a making takes, the calls of an open link, and every answer in a link's life.
 use crate::packet::SlipCopy;
 use crate::refusal::Refusal;
 
@@ -13,6 +13,22 @@ pub enum Call {
     Return(u64, u64),
     AskFigures(u64),
     AskTotals,
+}
+
+// What a making takes: the link's number, the largest length, the capacity of its waiting line and the weight of session 0.
+#[derive(Clone, Copy, PartialEq, Eq, Debug)]
+pub struct Making {
+    pub number: u64,
+    pub largest: u64,
+    pub capacity: u64,
+    pub weight: u64,
+}
+
+// How a packet that is out is settled.
+#[derive(Clone, Copy, PartialEq, Eq, Debug)]
+pub enum Settlement {
+    File,
+    Return,
 }
 
 // The bytes of a session: accepted, sent and served; the lead, which is sent minus served; those of its waiting packets.

@@ -8,90 +8,69 @@ ghost use Rattle.tick_machine.specs.Fit.{DraftsKeepTheLimits};
 ghost use Rattle.tick_machine.specs.Books.{TheStoryTellsTheCalls, SameWork, OwedByNext, FiguresTold, FiguresAddUp, TotalsAddUp, WellKept, StaysSmall, OfEveryMachine};
 
 // Each position of a round has one owner, a session of the link, and each session owns as many positions as its weight.
-pub fn ownership_stands() -> u8
+pub fn ownership_stands()
     ensures each_position_has_one_owner { EachPositionHasOneOwner }
     ensures each_session_owns_its_weight { EachSessionOwnsItsWeight }
-{
-    0
-}
+{}
 
 // Every drafted configuration keeps the limits of a link.
-pub fn limits_stand() -> u8
+pub fn limits_stand()
     ensures { DraftsKeepTheLimits }
-{
-    0
-}
+{}
 
 // The law holds at every moment of every history: (i) no packet leaves, or is still unsent, Lmax ticks or more after its last byte was served;
 // (ii) each session's bytes served minus bytes sent stay below Lmax; (iii) no packet leaves, or is still unsent, after its latest tick, and that
 // tick is bounded by the bytes its session was owed.
-pub fn law_stands() -> u8
+pub fn law_stands()
     ensures { InEveryHistory Law }
-{
-    0
-}
+{}
 
 // The machine that the law speaks of is the machine that the calls lead to.
-pub fn story_stands() -> u8
+pub fn story_stands()
     ensures { TheStoryTellsTheCalls }
-{
-    0
-}
+{}
 
 // The round server owes as many bytes as are unsent.
-pub fn work_stands() -> u8
+pub fn work_stands()
     ensures { OfEveryMachine SameWork }
-{
-    0
-}
+{}
 
 // The owed slots are exactly the slots from V on that are below their owner's next.
-pub fn owed_slots_stand() -> u8
+pub fn owed_slots_stand()
     ensures { OfEveryMachine OwedByNext }
-{
-    0
-}
+{}
 
 // The figures of the sessions are what happened, and they add up.
-pub fn figures_stand() -> u8
+pub fn figures_stand()
     ensures in_every_history { InEveryHistory FiguresTold }
     ensures of_every_machine { OfEveryMachine FiguresAddUp }
-{
-    0
-}
+{}
 
 // The totals add up to the number of accepted packets.
-pub fn totals_stand() -> u8
+pub fn totals_stand()
     ensures { OfEveryMachine TotalsAddUp }
-{
-    0
-}
+{}
 
 // No packet number is held twice; waiting packets stand in rising order of their stamps; unsent packets are proper.
-pub fn numbers_stand() -> u8
+pub fn numbers_stand()
     ensures { OfEveryMachine WellKept }
-{
-    0
-}
+{}
 
 // All numbers stay small.
-pub fn sizes_stand() -> u8
+pub fn sizes_stand()
     ensures { OfEveryMachine StaysSmall }
-{
-    0
-}
+{}
 
 // What a reader of the rules asks of every history, in one place: the law, told of the machine that the calls lead to, with figures and totals
 // that are what happened.
-pub fn every_history_is_lawful() -> u8
+pub fn every_history_is_lawful()
     ensures lawful { (c : Config) → Drafted c → (calls : List Call) → Lawful c calls }
     ensures the_story_tells_the_calls { TheStoryTellsTheCalls }
     ensures in_every_history { InEveryHistory FiguresTold }
     ensures of_every_machine { OfEveryMachine TotalsAddUp }
 {
-    let _ = law_stands();
-    let _ = story_stands();
-    let _ = figures_stand();
-    let _ = totals_stand();
-    0
+    law_stands();
+    story_stands();
+    figures_stand();
+    totals_stand();
 }

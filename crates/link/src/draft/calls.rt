@@ -12,23 +12,24 @@ use crate::link::Link;
 use crate::session::Session;
 use slot_clock::clock::SlotClock;
 use std::alloc::Global;
+use tick_machine::call::Making;
 use tick_machine::refusal::Refusal;
 use waiting_line::line::WaitingLine;
 
 // The checks of a making, in their order.
-fn check(number: u64, largest: u64, capacity: u64, weight: u64) -> Result<(), Refusal>
-    ensures { result ≡ checked (made_of number largest capacity weight) }
+fn check(making: Making) -> Result<(), Refusal>
+    ensures { result ≡ checked (made_of making.number making.largest making.capacity making.weight) }
 {
-    if number > 65_535 {
+    if making.number > 65_535 {
         return Err(Refusal::LinkNumber);
     }
-    if largest == 0 || largest > 65_535 {
+    if making.largest == 0 || making.largest > 65_535 {
         return Err(Refusal::Largest);
     }
-    if capacity == 0 || capacity > 1_024 {
+    if making.capacity == 0 || making.capacity > 1_024 {
         return Err(Refusal::Capacity);
     }
-    if weight == 0 || weight > HEAVIEST {
+    if making.weight == 0 || making.weight > HEAVIEST {
         return Err(Refusal::FirstWeight);
     }
     Ok(())
@@ -36,34 +37,25 @@ fn check(number: u64, largest: u64, capacity: u64, weight: u64) -> Result<(), Re
 
 impl<W: WaitingLine> Draft<W> {
     // A draft with one session. All memory that the link will ever need is had here.
-    pub fn make(
-        heap: Global,
-        number: u64,
-        largest: u64,
-        capacity: u64,
-        weight: u64,
-    ) -> Result<Draft<W>, MakeError>
+    pub fn make(heap: Global, making: Making) -> Result<Draft<W>, MakeError>
     where
         W: Drop,
-        ensures { Makes W.WaitingLine.pairs W.WaitingLine.capacity (made_of number largest capacity weight) result }
+        ensures { Makes W.WaitingLine.pairs W.WaitingLine.capacity (made_of making.number making.largest making.capacity making.weight) result }
     {
-        check(number, largest, capacity, weight)?;
-        let waiting: W = W::make(heap, capacity)?;
+        check(making)?;
+        let waiting: W = W::make(heap, making.capacity)?;
         let mut weights = Vec::with_capacity(heap, SESSIONS)?;
         let mut sessions = Vec::with_capacity(heap, SESSIONS)?;
         let table = Vec::with_capacity(heap, UNSETTLED)?;
         let left = Vec::with_capacity(heap, UNSETTLED)?;
         let out = Vec::with_capacity(heap, UNSETTLED)?;
-        weights.push_reserved(weight);
-        sessions.push_reserved(Session {
-            accepted: 0,
-            sent: 0,
-        });
+        weights.push_reserved(making.weight);
+        sessions.push_reserved(Session::default());
         Ok(Draft {
             waiting,
-            number,
-            largest,
-            round: weight,
+            number: making.number,
+            largest: making.largest,
+            round: making.weight,
             weights,
             sessions,
             table,
@@ -88,10 +80,7 @@ impl<W: WaitingLine> Draft<W> {
         }
         let session = self.weights.len() as u64;
         self.weights.push_reserved(weight);
-        self.sessions.push_reserved(Session {
-            accepted: 0,
-            sent: 0,
-        });
+        self.sessions.push_reserved(Session::default());
         self.round += weight;
         Ok(session)
     }
@@ -100,22 +89,9 @@ impl<W: WaitingLine> Draft<W> {
     pub fn open<S: SlotClock>(self) -> (Link<W, S>, u64)
         ensures { (c : Config) → Drafts W.WaitingLine.pairs W.WaitingLine.capacity c self → Opens W.WaitingLine.pairs W.WaitingLine.capacity S.SlotClock.state c result.0 result.1 }
     {
-        let Draft {
-            waiting,
-            number,
-            largest,
-            round,
-            weights,
-            sessions,
-            table,
-            left,
-            out,
-        } = self;
-        match S::make(&weights) {
-            Ok(slots) => (
-                Link::opened(waiting, slots, number, largest, sessions, table, left, out),
-                round,
-            ),
+        let round = self.round;
+        match S::make(&self.weights) {
+            Ok(slots) => (Link::opened(self, slots), round),
             Err(_) => unreachable(),
         }
     }

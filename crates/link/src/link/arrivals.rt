@@ -9,7 +9,6 @@ ghost use Rattle.link.specs.Promise.{Keeps};
 
 use super::Link;
 use crate::limits::UNSETTLED;
-use crate::refusal::nearest;
 use crate::session::note_accepted;
 use slot_clock::clock::SlotClock;
 use tick_machine::packet::Packet;
@@ -53,10 +52,7 @@ impl<W: WaitingLine, S: SlotClock> Link<W, S> {
         self.admit(session, size)?;
         let number = self.count;
         let cursor = self.slots.cursor();
-        let stamp = match self.slots.add(session, size) {
-            Ok(stamp) => stamp,
-            Err(e) => return Err(nearest(e)),
-        };
+        let stamp = self.slots.add(session, size)?;
         self.waiting.put(Pair {
             stamp,
             packet: number,

@@ -7,7 +7,6 @@ ghost use Rattle.tick_machine.specs.declared.call.Answer.TheVariants.{FiguresAre
 ghost use Rattle.link.specs.Promise.{Keeps, LeadBounded};
 
 use super::Link;
-use crate::refusal::nearest;
 use slot_clock::clock::SlotClock;
 use tick_machine::call::{Figures, Totals};
 use tick_machine::packet::{Line, Packet};
@@ -62,10 +61,7 @@ impl<W: WaitingLine, S: SlotClock> Link<W, S> {
             return Err(Refusal::UnknownSession);
         }
         let record = self.sessions[session as usize];
-        let owed = match self.slots.owed(session) {
-            Ok(owed) => owed,
-            Err(e) => return Err(nearest(e)),
-        };
+        let owed = self.slots.owed(session)?;
         let served = record.accepted.saturating_sub(owed);
         let lead = lead_of(record.sent, served);
         let waiting = bytes_of(&self.table, session);

@@ -1,17 +1,18 @@
 // Slips go out and come back.
 ghost use Rattle.std.specs.Prelude.{◌≡◌, ℕ, ◌<◌, IfOk, Ok, Err, MatchResult};
 ghost use Rattle.tick_machine.specs.Machine.{Config, Machine};
-ghost use Rattle.tick_machine.specs.Life.{settlement};
+ghost use Rattle.tick_machine.specs.Life.{settlement, settling, granted};
 ghost use Rattle.tick_machine.specs.declared.call.Call.TheVariants.{Collect, File, Return};
 ghost use Rattle.tick_machine.specs.declared.call.Answer.TheVariants.{Filed, Returned};
-ghost use Rattle.link.specs.Places.{At, itself};
+ghost use Rattle.link.specs.Places.{At};
 ghost use Rattle.link.specs.Shown.{Shown};
 ghost use Rattle.link.specs.Promise.{Keeps, collected_as, settled, HandedBack};
 
 use super::Link;
 use crate::slip::Slip;
-use crate::table::place_of;
+use crate::table::place;
 use slot_clock::clock::SlotClock;
+use tick_machine::call::Settlement;
 use tick_machine::packet::SlipCopy;
 use tick_machine::refusal::Refusal;
 use waiting_line::line::WaitingLine;
@@ -41,47 +42,50 @@ impl<W: WaitingLine, S: SlotClock> Link<W, S> {
 
     // Where the slip's packet stands among those out, or why it cannot be settled here.
     fn find_out(&self, link: u64, packet: u64) -> Result<usize, Refusal>
-        ensures found { IfOk result (λ i. At itself packet self.now.out.items i) }
+        ensures found { IfOk result (λ i. At (λ n. n) packet self.now.out.items i) }
         ensures value { (c : Config) (m : Machine) → Shown W.WaitingLine.pairs W.WaitingLine.capacity S.SlotClock.state c m self.now → MatchResult result (λ _. settlement c link packet m ≡ Ok packet) (λ e. settlement c link packet m ≡ Err e) }
     {
         if link != self.number {
             return Err(Refusal::OtherLink);
         }
-        match place_of(&self.out, packet) {
+        match place(&self.out, packet) {
             Some(i) => Ok(i),
             None => Err(Refusal::NotOut),
         }
     }
 
-    // The packet of the slip is filed: its number. A refusal hands the slip back.
-    pub fn file(&mut self, slip: Slip) -> Result<u64, (Refusal, Slip)>
-        ensures keeps { Keeps W.WaitingLine.pairs W.WaitingLine.capacity S.SlotClock.state self.old (File slip.says.link slip.says.packet) (settled Filed result) self.new }
+    // The packet of the slip is settled so: its number. A refusal hands the slip back.
+    pub fn settle(&mut self, slip: Slip, how: Settlement) -> Result<u64, (Refusal, Slip)>
+        ensures keeps { Keeps W.WaitingLine.pairs W.WaitingLine.capacity S.SlotClock.state self.old (settling how slip.says.link slip.says.packet) (settled (granted how) result) self.new }
         ensures back { HandedBack slip result }
     {
         match self.find_out(slip.says.link, slip.says.packet) {
             Ok(i) => {
                 let Slip { says } = slip;
                 let _ = self.out.remove(i);
-                self.filed = self.filed.saturating_add(1);
+                match how {
+                    Settlement::File => self.filed = self.filed.saturating_add(1),
+                    Settlement::Return => self.returned = self.returned.saturating_add(1),
+                }
                 Ok(says.packet)
             }
             Err(e) => Err((e, slip)),
         }
     }
 
-    // The packet of the slip is returned: its number. A refusal hands the slip back.
+    // The packet of the slip is filed.
+    pub fn file(&mut self, slip: Slip) -> Result<u64, (Refusal, Slip)>
+        ensures keeps { Keeps W.WaitingLine.pairs W.WaitingLine.capacity S.SlotClock.state self.old (File slip.says.link slip.says.packet) (settled Filed result) self.new }
+        ensures back { HandedBack slip result }
+    {
+        self.settle(slip, Settlement::File)
+    }
+
+    // The packet of the slip is returned.
     pub fn give_back(&mut self, slip: Slip) -> Result<u64, (Refusal, Slip)>
         ensures keeps { Keeps W.WaitingLine.pairs W.WaitingLine.capacity S.SlotClock.state self.old (Return slip.says.link slip.says.packet) (settled Returned result) self.new }
         ensures back { HandedBack slip result }
     {
-        match self.find_out(slip.says.link, slip.says.packet) {
-            Ok(i) => {
-                let Slip { says } = slip;
-                let _ = self.out.remove(i);
-                self.returned = self.returned.saturating_add(1);
-                Ok(says.packet)
-            }
-            Err(e) => Err((e, slip)),
-        }
+        self.settle(slip, Settlement::Return)
     }
 }

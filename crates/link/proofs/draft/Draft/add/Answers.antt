@@ -1,4 +1,4 @@
-use Rattle.std.proofs.Common.{◌+◌, vec_items, sym, refl, ap, ◌∙◌, arith}
+use Rattle.std.proofs.Common.{◌+◌, [], ◌∷◌, ◌++◌, vec_items, sym, refl, ap, ◌∙◌, arith}
 use Rattle.tick_machine.specs.Slots.{round_length}
 use Rattle.slot_clock.specs.Calls.{no_zero}
 use Rattle.link.proofs.Drafts.{no_zero_push, round_push, fresh_push, fresh_length, session_added}
@@ -25,7 +25,7 @@ invariant_of-self g c =
       sum = ap (λ n. n + w) d.sum ∙ sym (round_push _ w) ∙ ap round_length (sym one.items);
       light = omega arith;
       weighty = ap no_zero one.items ∙ no_zero_push (vec_items d.weights) w (omega arith) d.weighty;
-      fresh = fresh_push _ _ _ _ _ d.fresh two.items one.len;
+      fresh = fresh_push _ _ _ _ _ d.fresh (two.items ∙ (λ k. vec_items d.sessions ++ record { accepted = c.default.ensures.0 k; sent = c.default.ensures.1 k } ∷ [])) one.len;
       untabled = d.untabled;
       unlisted = d.unlisted;
       unnoted = d.unnoted;

@@ -1,4 +1,5 @@
 use Rattle.std.proofs.Common.{ℕ, ◌^◌, ◌<◌, sym, ◌∙◌, subst, arith, w64, SFits, to_z, of_z, rules}
+use Rattle.std.proofs.lemmas.Result.{err_from_is_err_and}
 use Rattle.std.proofs.lemmas.Int.{to_z-of_z}
 use Rattle.link.proofs.Readings.{figures_refused, owed_known, sent_small, served_small, figures_goes, lead_bounded}
 use Rattle.link.proofs.link.Link.figures.Goals as goal
@@ -6,16 +7,16 @@ use Rattle.link.proofs.link.Link.figures.Goals as goal
 pub returns-then-session-len : goal.returns-then-session-len
 returns-then-session-len g c = record { keeps = λ f calls h. figures_refused h c.args.session (omega arith); lead = tt }
 
-pub returns-in-Err : goal.returns-in-Err
-returns-in-Err g c = record { keeps = λ f calls h. absurd (owed_known h c.args.session (omega arith) c.in-Err.e c.in-Err.ensures); lead = tt }
+pub returns-in_err-owed : goal.returns-in_err-owed
+returns-in_err-owed g c = record { keeps = λ f calls h. absurd (owed_known h c.args.session (omega arith) _ c.in_err-owed.ensures); lead = let p = err_from_is_err_and c.from_residual.result c.from_residual.ensures.1 in rw p.1 tt }
 
 pub returns : goal.returns
 returns g c =
     let i = c.args.session in
     let r = c.index-record.result.now in
     let is = c.index-record.ensures in
-    let owed = c.in-Ok.owed in
-    let owes = c.in-Ok.ensures in
+    let owed = c.in_ok-owed.owed in
+    let owes = c.in_ok-owed.ensures in
     let served = c.saturating_sub-served.result in
     let ev = c.saturating_sub-served.ensures in
     let z = c.lead_of-lead.result in

@@ -1,6 +1,5 @@
 use Rattle.std.proofs.Common.{min, eqb, ap, ◌∙◌, arith, take_all}
 use Rattle.tick_machine.specs.Lists.{total, only}
-use Rattle.link.specs.Places.{packet_number}
 use Rattle.link.proofs.Readings.{bytes_counted, bytes_passed}
 use Rattle.link.proofs.link.readings.bytes_of.Goals as goal
 use Rattle.link.proofs.link.readings.bytes_of.Goals.{then-packet-session, else-packet-session}
@@ -8,9 +7,9 @@ use Rattle.link.proofs.link.readings.bytes_of.Goals.{then-packet-session, else-p
 pub loop-packet-preserved : goal.loop-packet-preserved
 loop-packet-preserved c =
     elim c.if-packet-session.branch [
-      | then-packet-session w ↦ bytes_counted c.args.session c.args.table.now c.loop-packet.packet-index packet_number.blank c.loop-packet-test.true c.loop-packet.sum c.if-packet-session.sum c.loop-packet.invariant
+      | then-packet-session w ↦ bytes_counted c.args.session c.args.table.now c.loop-packet.packet-index _ c.loop-packet-test.true c.loop-packet.sum c.if-packet-session.sum c.loop-packet.invariant
           w.if-packet-session.true (w.sum-is ∙ w.saturating_add-sum.ensures)
-      | else-packet-session w ↦ bytes_passed c.args.session c.args.table.now c.loop-packet.packet-index packet_number.blank c.loop-packet-test.true c.loop-packet.sum c.if-packet-session.sum c.loop-packet.invariant
+      | else-packet-session w ↦ bytes_passed c.args.session c.args.table.now c.loop-packet.packet-index _ c.loop-packet-test.true c.loop-packet.sum c.if-packet-session.sum c.loop-packet.invariant
           w.if-packet-session.false w.sum-is
     ]
 

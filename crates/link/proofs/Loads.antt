@@ -1,9 +1,8 @@
 -- What a link shows when its line takes a packet. Assumes nothing.
-use Rattle.std.proofs.Common.{◌≡◌, ℕ, ◌≤◌, List, [], ◌∷◌, map, get_or, Some, vec_items, vec_len, sym, refl, ap, ◌∙◌, subst, arith}
+use Rattle.std.proofs.Common.{◌≡◌, ℕ, ◌≤◌, List, [], ◌∷◌, map, get_or, Some, vec_items, vec_len, sym, refl, ap, ◌∙◌, subst, arith, None}
 use Rattle.std.specs.List.{remove}
 use Rattle.tick_machine.specs.declared.packet.Packet.{Packet}
-use Rattle.tick_machine.specs.declared.packet.Line.{Line}
-use Rattle.tick_machine.specs.declared.packet.Line.TheVariants.{Free as free, Sending as sending}
+use Rattle.tick_machine.specs.Sender.{Line, free, sending}
 use Rattle.tick_machine.specs.Lists.{All}
 use Rattle.tick_machine.specs.Sender.{Sender, load}
 use Rattle.tick_machine.specs.Machine.{Config, Machine}
@@ -27,9 +26,9 @@ record Next (clock : ℕ) (l : Line) (ws : List Packet) (t : Pair) : Type 0 wher
   loads : load clock l ws ≡ record { waiting = others; line = sending it clock it.size }
 
 next : (clock : ℕ) (l : Line) (ws : List Packet) (t : Pair) → l ≡ free → Some t ≡ first (map pair ws) → Next clock l ws t
-next clock free [] t e f = let z : ◌≡◌ {A = ℕ} 0 1 = cc in absurd (omega arith)
-next clock free (p ∷ ws) t e f = record { it = p; others = ws; waits = refl; named = cc; loads = refl }
-next clock (sending p s n) ws t e f = let z : ◌≡◌ {A = ℕ} 0 1 = cc in absurd (omega arith)
+next clock None [] t e f = let z : ◌≡◌ {A = ℕ} 0 1 = cc in absurd (omega arith)
+next clock None (p ∷ ws) t e f = record { it = p; others = ws; waits = refl; named = cc; loads = refl }
+next clock (Some b) ws t e f = let z : ◌≡◌ {A = ℕ} 0 1 = cc in absurd (omega arith)
 
 module _ {W S : Type 0} {pairs : W → List Pair} {capacity : W → ℕ} {state : S → SlotState} {c : Config} {m : Machine} {l : Link W S}
     (s : Shown pairs capacity state c m l) (o : Orderly c m) (t : Pair) (idle : l.line ≡ free) (least : Some t ≡ first (pairs l.waiting)) where

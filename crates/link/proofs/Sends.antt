@@ -1,9 +1,8 @@
 -- What a link shows when bytes of the packet on its line are sent. Assumes nothing.
-use Rattle.std.proofs.Common.{◌≡◌, ℕ, ◌+◌, ◌-◌, ◌^◌, ◌<◌, ◌≤◌, List, [], ◌∷◌, ◌++◌, map, get_or, vec_items, vec_len, sym, ap, ◌∙◌, subst, arith}
+use Rattle.std.proofs.Common.{◌≡◌, ℕ, ◌+◌, ◌-◌, ◌^◌, ◌<◌, ◌≤◌, List, [], ◌∷◌, ◌++◌, map, get_or, vec_items, vec_len, sym, ap, ◌∙◌, subst, arith, Some, None}
 use Rattle.tick_machine.specs.declared.packet.Packet.{Packet}
 use Rattle.tick_machine.specs.declared.packet.Departed.{Departed}
-use Rattle.tick_machine.specs.declared.packet.Line.{Line}
-use Rattle.tick_machine.specs.declared.packet.Line.TheVariants.{Free as free, Sending as sending}
+use Rattle.tick_machine.specs.Sender.{Line, free, sending}
 use Rattle.tick_machine.specs.Sender.{onward, leaving}
 use Rattle.tick_machine.specs.Desk.{joined}
 use Rattle.tick_machine.specs.Machine.{Config, Machine, raise}
@@ -17,8 +16,8 @@ use Rattle.link.proofs.Stretches.{onward_some, leaving_some}
 
 -- what holds of the packet on the line
 pub on_packet : {P : Packet → Type 0} {p : Packet} {st n : ℕ} (l : Line) → On P l → l ≡ sending p st n → P p
-on_packet free o e = let z : ◌≡◌ {A = ℕ} 0 1 = cc in absurd (omega arith)
-on_packet {P} {p} (sending q a b) (busy h) e = let f : q ≡ p = cc in subst P f h
+on_packet None o e = let z : ◌≡◌ {A = ℕ} 0 1 = cc in absurd (omega arith)
+on_packet {P} {p} (Some on_it) (busy h) e = let f : on_it.packet ≡ p = cc in subst P f h
 
 module _ {W S : Type 0} {pairs : W → List Pair} {capacity : W → ℕ} {state : S → SlotState} {c : Config} {m : Machine} {l : Link W S}
     (s : Shown pairs capacity state c m l) (k : ℕ) (carry : Carries c k m) (p : Packet) (st n : ℕ) (on : l.line ≡ sending p st n) where

@@ -1,9 +1,8 @@
 -- What a link shows after a stretch. Assumes nothing.
-use Rattle.std.proofs.Common.{◌≡◌, ℕ, ◌+◌, ◌≤◌, min, List, [], ◌∷◌, map, vec_items, vec_len, sym, refl, ap, ◌∙◌, subst, arith}
+use Rattle.std.proofs.Common.{◌≡◌, ℕ, ◌+◌, ◌≤◌, min, List, [], ◌∷◌, map, vec_items, vec_len, sym, refl, ap, ◌∙◌, subst, arith, Some, None}
 use Rattle.std.proofs.lemmas.Bool.{cond-true, le-leb}
 use Rattle.tick_machine.specs.declared.packet.Packet.{Packet}
-use Rattle.tick_machine.specs.declared.packet.Line.{Line}
-use Rattle.tick_machine.specs.declared.packet.Line.TheVariants.{Free as free, Sending as sending}
+use Rattle.tick_machine.specs.Sender.{Line, free}
 use Rattle.tick_machine.specs.Lists.{All, more}
 use Rattle.tick_machine.specs.Round.{Round, round_ticks}
 use Rattle.tick_machine.specs.Sender.{load}
@@ -21,29 +20,29 @@ use Rattle.link.proofs.Stretches.{ticks_sending, ticks_idle, load_ticks}
 
 -- a line that is free after a load: nothing waits
 load_free : (t : ℕ) (l : Line) (ws : List Packet) → (load t l ws).line ≡ free → (load t l ws).waiting ≡ []
-load_free t free [] e = refl
-load_free t free (p ∷ ws) e = let z : ◌≡◌ {A = ℕ} 0 1 = cc in absurd (omega arith)
-load_free t (sending p s n) ws e = let z : ◌≡◌ {A = ℕ} 0 1 = cc in absurd (omega arith)
+load_free t None [] e = refl
+load_free t None (p ∷ ws) e = let z : ◌≡◌ {A = ℕ} 0 1 = cc in absurd (omega arith)
+load_free t (Some b) ws e = let z : ◌≡◌ {A = ℕ} 0 1 = cc in absurd (omega arith)
 
 load_on : {P : Packet → Type 0} (t : ℕ) (l : Line) (ws : List Packet) → On P l → All P ws → On P (load t l ws).line
-load_on t free [] o w = idle
-load_on t free (p ∷ ws) o (more h r) = busy h
-load_on t (sending p s n) ws (busy h) w = busy h
+load_on t None [] o w = idle
+load_on t None (p ∷ ws) o (more h r) = busy h
+load_on t (Some b) ws (busy h) w = busy h
 
 -- how far a stretch goes
 pub reach_most : (l : Line) (span : ℕ) → reach l span ≤ span
-reach_most free span = omega arith
-reach_most (sending p s n) span = omega arith
+reach_most None span = omega arith
+reach_most (Some b) span = omega arith
 
 pub reach_some : (l : Line) (span : ℕ) → 1 ≤ span → 1 ≤ at_work l → 1 ≤ reach l span
-reach_some free span h b = h
-reach_some (sending p s n) span h b = omega arith
+reach_some None span h b = h
+reach_some (Some on_it) span h b = omega arith
 
 -- it is so many ticks
 stretched : (c : Config) (m : Machine) (l : Line) (span : ℕ) → (loaded m).sender.line ≡ l → 1 ≤ span → 1 ≤ at_work l
     → ticks c (reach l span) m ≡ send_bytes (reach l span) (spent c (reach l span) (loaded m))
-stretched c m free span e h b = sym (load_ticks c m span h) ∙ ticks_idle c (loaded m) e (load_free m.clock m.sender.line m.sender.waiting e) span
-stretched c m (sending p s n) span e h b = sym (load_ticks c m (min span n) (omega arith)) ∙ ticks_sending c (loaded m) p s n e (min span n) b (omega arith)
+stretched c m None span e h b = sym (load_ticks c m span h) ∙ ticks_idle c (loaded m) e (load_free m.clock m.sender.line m.sender.waiting e) span
+stretched c m (Some on_it) span e h b = sym (load_ticks c m (min span on_it.rest) (omega arith)) ∙ ticks_sending c (loaded m) on_it.packet on_it.started on_it.rest e (min span on_it.rest) b (omega arith)
 
 -- a slot clock that means this round server runs as it does
 ran : (ws : List ℕ) (t k : ℕ) (r : Round) → r ≡ round_of (state_of ws t r) → t + k ≤ 17592186044416 → run_after (state_of ws t r) k ≡ state_of ws (t + k) (round_ticks k r)

@@ -1,9 +1,8 @@
 -- A stretch of ticks at once is those ticks one by one. Assumes nothing.
-use Rattle.std.proofs.Common.{◌≡◌, ℕ, zero, suc, ◌+◌, ◌-◌, ◌<◌, ◌≤◌, List, [], ◌∷◌, set, None, sym, refl, ap, ◌∙◌, add-suc, arith}
+use Rattle.std.proofs.Common.{◌≡◌, ℕ, zero, suc, ◌+◌, ◌-◌, ◌<◌, ◌≤◌, List, [], ◌∷◌, set, None, sym, refl, ap, ◌∙◌, add-suc, arith, Some}
 use Rattle.std.proofs.lemmas.List.{set-get_or}
 use Rattle.tick_machine.specs.declared.packet.Packet.{Packet}
-use Rattle.tick_machine.specs.declared.packet.Line.{Line}
-use Rattle.tick_machine.specs.declared.packet.Line.TheVariants.{Free as free, Sending as sending}
+use Rattle.tick_machine.specs.Sender.{Line, free, sending}
 use Rattle.tick_machine.specs.Round.{round_ticks}
 use Rattle.tick_machine.specs.Sender.{onward, leaving, send}
 use Rattle.tick_machine.specs.Desk.{depart}
@@ -32,9 +31,9 @@ at m l ws = record { clock = m.clock; count = m.count; round = m.round; sender =
 
 load_same : (c : Config) (m : Machine) (l : Line) (ws : List Packet) → tick c (loaded (at m l ws)) ≡ tick c (at m l ws)
 unfolding at
-load_same c m free [] = refl
-load_same c m free (p ∷ ws) = refl
-load_same c m (sending p s n) ws = refl
+load_same c m None [] = refl
+load_same c m None (p ∷ ws) = refl
+load_same c m (Some b) ws = refl
 
 load_tick : (c : Config) (m : Machine) → tick c (loaded m) ≡ tick c m
 unfolding at

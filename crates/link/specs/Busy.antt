@@ -1,8 +1,7 @@
 -- The bytes left on a line that is not free. Assumes nothing.
-use Rattle.std.specs.Prelude.{ℕ}
-use Rattle.tick_machine.specs.declared.packet.Line.{Line}
-use Rattle.tick_machine.specs.declared.packet.Line.TheVariants.{Free as free, Sending as sending}
+use Rattle.std.specs.Prelude.{ℕ, Some, None}
+use Rattle.tick_machine.specs.Sender.{Line}
 
 abbrev pub at_work : Line → ℕ
-at_work free = 1
-at_work (sending p started n) = n
+at_work None = 1
+at_work (Some s) = s.rest

@@ -1,6 +1,6 @@
 -- The fields of a link that was just opened. Assumes nothing.
 use Rattle.std.specs.Prelude.{◌≡◌}
-use Rattle.tick_machine.specs.declared.packet.Line.TheVariants.{Free}
+use Rattle.tick_machine.specs.Sender.{free}
 use Rattle.link.specs.declared.draft.Draft.{Draft}
 use Rattle.link.specs.declared.link.Link.{Link}
 
@@ -12,7 +12,7 @@ pub record Opened {W S : Type 0} (d : Draft W) (slots : S) (l : Link W S) : Type
   pub sessions_are : l.sessions ≡ d.sessions
   pub clock_is : l.clock ≡ 0
   pub count_is : l.count ≡ 0
-  pub line_is : l.line ≡ Free
+  pub line_is : l.line ≡ free
   pub table_is : l.table ≡ d.table
   pub left_is : l.left ≡ d.left
   pub out_is : l.out ≡ d.out

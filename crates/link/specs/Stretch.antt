@@ -1,8 +1,7 @@
 -- What a stretch of ticks does at once. Assumes nothing.
-use Rattle.std.specs.Prelude.{ℕ, ◌+◌, ◌-◌, ◌^◌, ◌<◌, min, List, length, None, Option, slice_index}
+use Rattle.std.specs.Prelude.{ℕ, ◌+◌, ◌-◌, ◌^◌, ◌<◌, min, List, length, None, Option, slice_index, Some}
 use Rattle.tick_machine.specs.declared.packet.Departed.{Departed}
-use Rattle.tick_machine.specs.declared.packet.Line.{Line}
-use Rattle.tick_machine.specs.declared.packet.Line.TheVariants.{Free as free, Sending as sending}
+use Rattle.tick_machine.specs.Sender.{Line, free}
 use Rattle.tick_machine.specs.Round.{round_ticks}
 use Rattle.tick_machine.specs.Sender.{load, onward, leaving}
 use Rattle.tick_machine.specs.Desk.{depart}
@@ -22,8 +21,8 @@ loaded m = record {
 
 -- how many of so many ticks pass before the line changes
 abbrev pub reach : Line → ℕ → ℕ
-reach free span = span
-reach (sending p started n) span = min span n
+reach None span = span
+reach (Some s) span = min span s.rest
 
 -- k ticks at the clock and at the round server, and none at the line
 abbrev pub spent : Config → ℕ → Machine → Machine
@@ -38,18 +37,18 @@ spent c k m = record {
 
 -- the line after k bytes
 abbrev pub line_after : ℕ → Line → Line
-line_after k free = free
-line_after k (sending p started n) = onward p started (n - k)
+line_after k None = free
+line_after k (Some s) = onward s.packet s.started (s.rest - k)
 
 -- the packet that leaves by them, at this tick
 abbrev pub leaver_after : ℕ → ℕ → Line → Option Departed
-leaver_after t k free = None
-leaver_after t k (sending p started n) = leaving t p started (n - k)
+leaver_after t k None = None
+leaver_after t k (Some s) = leaving t s.packet s.started (s.rest - k)
 
 -- the sent bytes after them
 abbrev pub sent_after : ℕ → Line → List ℕ → List ℕ
-sent_after k free xs = xs
-sent_after k (sending p started n) xs = raise p.session k xs
+sent_after k None xs = xs
+sent_after k (Some s) xs = raise s.packet.session k xs
 
 -- k bytes of the packet on the line are sent
 abbrev pub send_bytes : ℕ → Machine → Machine

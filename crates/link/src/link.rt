@@ -4,7 +4,7 @@ ghost use Rattle.tick_machine.specs.Life.{on_line};
 ghost use Rattle.link.specs.Busy.{at_work};
 
 use crate::session::Session;
-use tick_machine::packet::{Departed, Line, Packet};
+use tick_machine::packet::{Departed, Packet, Sending};
 
 // Its memory was had when its draft was made: no call asks for more.
 #[derive(Drop)]
@@ -16,7 +16,8 @@ pub struct Link<W, S> {
     sessions: Vec<Session>,
     clock: u64,
     count: u64,
-    line: Line,
+    // what is sent; none, if the line is free
+    line: Option<Sending>,
     // the waiting packets, by rising numbers
     table: Vec<Packet>,
     left: Vec<Departed>,

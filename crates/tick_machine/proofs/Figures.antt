@@ -6,7 +6,7 @@ use Rattle.std.proofs.lemmas.Bool.{cases_eq, eq-eqb, ne_eqb}
 use Rattle.tick_machine.specs.Lists.{total, only, All}
 use Rattle.tick_machine.specs.Slots.{round_length, owner}
 use Rattle.tick_machine.specs.Round.{Round, owed_to, granted, stamp, serve, served_slot}
-use Rattle.tick_machine.specs.Sender.{Packet, Departed, Line, free, sending, onward, leaving, byte_of, load, send, sent_off}
+use Rattle.tick_machine.specs.Sender.{Packet, Departed, Line, onward, leaving, byte_of, load, send, sent_off}
 use Rattle.tick_machine.specs.Desk.{Desk}
 use Rattle.tick_machine.specs.Machine.{Config, packet, raise, one_more, owner_of}
 use Rattle.tick_machine.specs.Story.{Served, Story, begun, serving, going, accepting, ticking}
@@ -105,28 +105,28 @@ onward_rest j started (suc n) p = refl
 send_sent : (j clock : ℕ) (l : Line) (ws : List Packet) (gone : List Departed) → UnderWay l → All (λ p. 1 ≤ p.size) ws
     → sent_on j (send clock l ws).line + gone_of j (going (sent_off clock l ws) gone)
     ≡ (sent_on j l + gone_of j gone) + at_place j (byte_of (load clock l ws).line)
-send_sent j clock free [] gone b h = omega arith
-send_sent j clock free (p ∷ ws) gone b h =
+send_sent j clock None [] gone b h = omega arith
+send_sent j clock None (p ∷ ws) gone b h =
     let o = onward_sent j (clock + 1) clock (p.size - 1) p gone in
     let one : p.size - (p.size - 1) ≡ 1 = omega (arith, head h) in
     omega (arith, ap (only (eqb p.session j)) one)
-send_sent j clock (sending p started n) ws gone b h =
-    let o = onward_sent j (clock + 1) started (n - 1) p gone in
-    let split : only (eqb p.session j) (p.size - (n - 1)) ≡ only (eqb p.session j) (p.size - n) + only (eqb p.session j) 1 = grind (arith, nat_tests) in
+send_sent j clock (Some on_it) ws gone b h =
+    let o = onward_sent j (clock + 1) on_it.started (on_it.rest - 1) on_it.packet gone in
+    let split : only (eqb on_it.packet.session j) (on_it.packet.size - (on_it.rest - 1)) ≡ only (eqb on_it.packet.session j) (on_it.packet.size - on_it.rest) + only (eqb on_it.packet.session j) 1 = grind (arith, nat_tests) in
     omega arith
 
 -- and so much less is unsent
 send_rest : (j clock : ℕ) (l : Line) (ws : List Packet) → UnderWay l → All (λ p. 1 ≤ p.size) ws
     → (line_rest j (send clock l ws).line + bytes_of j (send clock l ws).waiting) + at_place j (byte_of (load clock l ws).line) ≡ line_rest j l + bytes_of j ws
-send_rest j clock free [] b h = refl
-send_rest j clock free (p ∷ ws) b h =
+send_rest j clock None [] b h = refl
+send_rest j clock None (p ∷ ws) b h =
     let o = onward_rest j clock (p.size - 1) p in
     let some = head h in
     let split : only (eqb p.session j) (p.size - 1) + only (eqb p.session j) 1 ≡ only (eqb p.session j) p.size = grind (arith, nat_tests) in
     omega arith
-send_rest j clock (sending p started n) ws b h =
-    let o = onward_rest j started (n - 1) p in
-    let split : only (eqb p.session j) (n - 1) + only (eqb p.session j) 1 ≡ only (eqb p.session j) n = grind (arith, nat_tests) in
+send_rest j clock (Some on_it) ws b h =
+    let o = onward_rest j on_it.started (on_it.rest - 1) on_it.packet in
+    let split : only (eqb on_it.packet.session j) (on_it.rest - 1) + only (eqb on_it.packet.session j) 1 ≡ only (eqb on_it.packet.session j) on_it.rest = grind (arith, nat_tests) in
     omega arith
 
 -- a tick serves the slot that it counts
@@ -146,9 +146,9 @@ served_in_range weights [] h = tt
 served_in_range weights (q ∷ qs) h = owner_there weights q h
 
 byte_in_range : (n clock : ℕ) (l : Line) (ws : List Packet) → On (λ p. p.session < n) l → All (λ p. p.session < n) ws → InRange (byte_of (load clock l ws).line) n
-byte_in_range n clock free [] h k = tt
-byte_in_range n clock free (p ∷ ws) h k = head k
-byte_in_range n clock (sending p started m) ws h k = line h
+byte_in_range n clock None [] h k = tt
+byte_in_range n clock None (p ∷ ws) h k = head k
+byte_in_range n clock (Some b) ws h k = line h
 
 -- an unsent packet is of a session of the link
 pub sessions : {c : Config} {y : Story} → 1 ≤ round_length c.weights → Good c y → Unsent (λ p. p.session < length c.weights) y.machine.sender

@@ -1,10 +1,10 @@
 -- The round server is never a whole packet ahead of the line, at any session. Assumes nothing.
-use Rattle.std.proofs.Common.{◌≡◌, ℕ, ◌+◌, ◌-◌, ◌<◌, ◌≤◌, eqb, ◌⊎◌, List, [], ◌∷◌, sym, refl, ap, inl, inr, ⊎_elim, arith}
+use Rattle.std.proofs.Common.{◌≡◌, ℕ, ◌+◌, ◌-◌, ◌<◌, ◌≤◌, eqb, ◌⊎◌, List, [], ◌∷◌, sym, refl, ap, inl, inr, ⊎_elim, arith, Some, None}
 use Rattle.std.proofs.lemmas.Bool.Decides.{nat_tests}
 use Rattle.std.proofs.lemmas.Bool.{cases_eq, ne_eqb}
 use Rattle.tick_machine.specs.Lists.{All, more, Rising}
 use Rattle.tick_machine.specs.Slots.{owner}
-use Rattle.tick_machine.specs.Sender.{Packet, Line, free, sending}
+use Rattle.tick_machine.specs.Sender.{Packet, Line}
 use Rattle.tick_machine.specs.Machine.{Config}
 use Rattle.tick_machine.specs.Story.{Story}
 use Rattle.tick_machine.specs.Law.{On, Level}
@@ -46,22 +46,22 @@ module _ (c : Config) (y : Story) (g : Good c y) (i : ℕ) where
   line_level : (l : Line) → line_bytes y.machine.sender.line ≡ line_bytes l → On (First y.machine.sender.waiting) l
       → On (Sane c y.machine.round.next y.longest) l → On (Stage c y) l → UnderWay l
       → (line_rest i l ≡ 0) ⊎ (line_rest i l + bytes_of i y.machine.sender.waiting ≤ own c.weights i y.machine.round.owed + (y.longest - 1))
-  line_level free e a k st b = inl refl
-  line_level (sending p started n) e a k st b =
+  line_level None e a k st b = inl refl
+  line_level (Some on_it) e a k st b =
       ⊎_elim
-      (λ (j : p.session ≡ i).
+      (λ (j : on_it.packet.session ≡ i).
       let ws = y.machine.sender.waiting in
       let os = y.machine.round.owed in
-      let most = only_at_most (eqb p.session i) n in
-      let all = later_all p.session p.stamp ws (line a) in
-      let same : bytes_of i ws ≡ bytes_of p.session ws = ap (λ x. bytes_of x ws) (sym j) in
-      let same' : own c.weights i os ≡ own c.weights p.session os = ap (λ x. own c.weights x os) (sym j) in
+      let most = only_at_most (eqb on_it.packet.session i) on_it.rest in
+      let all = later_all on_it.packet.session on_it.packet.stamp ws (line a) in
+      let same : bytes_of i ws ≡ bytes_of on_it.packet.session ws = ap (λ x. bytes_of x ws) (sym j) in
+      let same' : own c.weights i os ≡ own c.weights on_it.packet.session os = ap (λ x. own c.weights x os) (sym j) in
       inr (⊎_elim
-      (λ (o : Open c y p). omega (arith, o.behind, own_split c.weights p.session p.stamp (line k).mine os, (line k).short))
-      (λ (o : Closed c y p). omega (arith, o.level))
+      (λ (o : Open c y on_it.packet). omega (arith, o.behind, own_split c.weights on_it.packet.session on_it.packet.stamp (line k).mine os, (line k).short))
+      (λ (o : Closed c y on_it.packet). omega (arith, o.level))
       (line st)))
-      (λ (d : p.session ≡ i → ⊥). inl (only_no (eqb p.session i) n (ne_eqb p.session i d)))
-      (cases_eq p.session i)
+      (λ (d : on_it.packet.session ≡ i → ⊥). inl (only_no (eqb on_it.packet.session i) on_it.rest (ne_eqb on_it.packet.session i d)))
+      (cases_eq on_it.packet.session i)
 
   waiting_level : bytes_of i y.machine.sender.waiting ≤ own c.weights i y.machine.round.owed + (y.longest - 1)
   waiting_level =

@@ -1,5 +1,5 @@
 -- Every packet in one place, every number held once, the clock and the cursor within their limits: kept by every event. Assumes nothing.
-use Rattle.std.proofs.Common.{◌≡◌, ℕ, ◌+◌, ◌-◌, ◌*◌, ◌<◌, ◌≤◌, true, eqb, ltb, length, refl, arith}
+use Rattle.std.proofs.Common.{◌≡◌, ℕ, ◌+◌, ◌*◌, ◌<◌, ◌≤◌, true, eqb, ltb, length, refl, arith}
 use Rattle.std.proofs.lemmas.Bool.Decides.{nat_tests}
 use Rattle.tick_machine.specs.Lists.{only}
 use Rattle.tick_machine.specs.Slots.{round_length}
@@ -12,7 +12,7 @@ use Rattle.tick_machine.specs.Fit.{Fit}
 use Rattle.tick_machine.specs.Books.{over, holds}
 use Rattle.tick_machine.proofs.Lists.{length_insert}
 use Rattle.tick_machine.proofs.Windows.{round_some}
-use Rattle.tick_machine.proofs.Work.{line, send_waiting}
+use Rattle.tick_machine.proofs.Work.{send_waiting}
 use Rattle.tick_machine.proofs.Good.{Good, tidy}
 use Rattle.tick_machine.proofs.Bound.{tick_near}
 use Rattle.tick_machine.proofs.Places.{unsettled_over, tick_over, accept_over, collect_over, without_total, without_length, joined_length, handed_length}

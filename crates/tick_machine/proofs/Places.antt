@@ -1,8 +1,8 @@
 -- Every accepted packet is in one place, and its number is held once. Assumes nothing.
 use Rattle.std.proofs.Common.{◌≡◌, ℕ, zero, suc, ◌+◌, ◌-◌, ◌≤◌, true, false, ◌||◌, eqb, List, [], ◌∷◌, ◌++◌, length, Some, None, Option, sym, refl, ap, ◌∙◌, ⊎_elim, arith, length-append}
 use Rattle.std.proofs.lemmas.Bool.{eqb-true, cond-true, cond-false, cases_Bool, false≢true}
-use Rattle.tick_machine.specs.Lists.{total, none}
-use Rattle.tick_machine.specs.Sender.{Packet, Departed, Line, free, sending, onward, leaving, send, sent_off}
+use Rattle.tick_machine.specs.Lists.{total}
+use Rattle.tick_machine.specs.Sender.{Packet, Departed, Line, onward, leaving, send, sent_off}
 use Rattle.tick_machine.specs.Desk.{joined, rest, handed, hand_out, among, without}
 use Rattle.tick_machine.specs.Machine.{Config, Machine, packet, accept, tick, with_desk}
 use Rattle.tick_machine.specs.Life.{on_line, unsettled}
@@ -18,8 +18,8 @@ total_ones [] = refl
 total_ones (x ∷ xs) = omega (arith, total_ones xs)
 
 line_ones : (l : Line) → over_line (λ x. 1) l ≡ on_line l
-line_ones free = refl
-line_ones (sending p started n) = refl
+line_ones None = refl
+line_ones (Some b) = refl
 
 -- the unsettled packets, counted
 pub unsettled_over : (m : Machine) → over (λ x. 1) m ≡ unsettled m
@@ -38,9 +38,9 @@ module _ (f : ℕ → ℕ) where
       → total (λ (p : Packet). f p.number) (send clock l ws).waiting + over_line f (send clock l ws).line
       + total (λ (d : Departed). f d.packet.number) (joined (sent_off clock l ws) ds)
       ≡ total (λ (p : Packet). f p.number) ws + over_line f l + total (λ (d : Departed). f d.packet.number) ds
-  send_over clock free [] ds = refl
-  send_over clock free (p ∷ ws) ds = omega (arith, onward_over (clock + 1) clock (p.size - 1) p ds)
-  send_over clock (sending p started n) ws ds = omega (arith, onward_over (clock + 1) started (n - 1) p ds)
+  send_over clock None [] ds = refl
+  send_over clock None (p ∷ ws) ds = omega (arith, onward_over (clock + 1) clock (p.size - 1) p ds)
+  send_over clock (Some b) ws ds = omega (arith, onward_over (clock + 1) b.started (b.rest - 1) b.packet ds)
 
   -- a tick moves packets on, and loses none
   pub tick_over : (c : Config) (m : Machine) → over f (tick c m) ≡ over f m

@@ -1,11 +1,11 @@
 -- Totals that add up, numbers that are held once, and figures that stay small, from what every event keeps. Assumes nothing.
-use Rattle.std.proofs.Common.{ℕ, ◌+◌, ◌-◌, ◌*◌, ◌<◌, ◌≤◌, eqb, ltb, List, [], ◌∷◌, length, get_or, refl, subst, mul-le-mul, arith}
+use Rattle.std.proofs.Common.{ℕ, ◌+◌, ◌*◌, ◌<◌, ◌≤◌, eqb, ltb, List, [], ◌∷◌, length, get_or, refl, subst, mul-le-mul, arith, Some, None}
 use Rattle.std.proofs.lemmas.Bool.Decides.{nat_tests}
 use Rattle.std.proofs.lemmas.Bool.{eq-eqb}
 use Rattle.tick_machine.specs.Lists.{total, only, All}
-use Rattle.tick_machine.specs.Sender.{Packet, Line, free, sending}
+use Rattle.tick_machine.specs.Sender.{Packet, Line}
 use Rattle.tick_machine.specs.Machine.{Config, Machine}
-use Rattle.tick_machine.specs.Life.{on_line, unsettled}
+use Rattle.tick_machine.specs.Life.{on_line}
 use Rattle.tick_machine.specs.Story.{Story}
 use Rattle.tick_machine.specs.Law.{On, idle, busy, Unsent}
 use Rattle.tick_machine.specs.Fit.{Fit}
@@ -26,8 +26,8 @@ held_given : (k n h : ℕ) → 1 ≤ h → h ≤ only (ltb k n) 1 → k < n
 held_given k n h a b = grind (arith, nat_tests)
 
 held_line : (l : Line) → On (λ p. 1 ≤ over_line (λ x. only (eqb x p.number) 1) l) l
-held_line free = idle
-held_line (sending p started n) = busy (omega (arith, only_yes (eqb p.number p.number) 1 (eq-eqb p.number p.number refl)))
+held_line None = idle
+held_line (Some b) = busy (omega (arith, only_yes (eqb b.packet.number b.packet.number) 1 (eq-eqb b.packet.number b.packet.number refl)))
 
 held_waiting : (ws : List Packet) → All (λ p. 1 ≤ total (λ (q : Packet). only (eqb q.number p.number) 1) ws) ws
 held_waiting ws =
@@ -63,8 +63,8 @@ waiting_small [] h = omega arith
 waiting_small (p ∷ ws) h = omega (arith, head h, waiting_small ws (tail h))
 
 line_small : (l : Line) → UnderWay l → On (λ p. p.size ≤ 65535) l → line_bytes l ≤ on_line l * 65535
-line_small free b h = omega arith
-line_small (sending p started n) b h = omega (arith, line h)
+line_small None b h = omega arith
+line_small (Some on_it) b h = omega (arith, line h)
 
 pub stays_small : (c : Config) (y : Story) → Fit c → Good c y → Told c y → Placed c y.machine → StaysSmall c y.machine
 stays_small c y f g t h =

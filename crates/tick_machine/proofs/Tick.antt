@@ -1,9 +1,9 @@
 -- A tick keeps what the law's induction keeps. Assumes nothing.
-use Rattle.std.proofs.Common.{◌≡◌, ℕ, ◌+◌, ◌-◌, ◌<◌, ◌≤◌, eqb, leb, ◌⊎◌, List, [], ◌∷◌, length, sym, ap, ◌∙◌, subst, inl, inr, ⊎_elim, arith}
+use Rattle.std.proofs.Common.{◌≡◌, ℕ, ◌+◌, ◌-◌, ◌<◌, ◌≤◌, eqb, leb, List, [], ◌∷◌, length, sym, ap, ◌∙◌, subst, inl, inr, ⊎_elim, arith, Some, None}
 use Rattle.tick_machine.specs.Lists.{only, All, Rising}
 use Rattle.tick_machine.specs.Slots.{owner}
 use Rattle.tick_machine.specs.Round.{serve}
-use Rattle.tick_machine.specs.Sender.{Packet, Line, free, sending, send}
+use Rattle.tick_machine.specs.Sender.{Packet, Line, send}
 use Rattle.tick_machine.specs.Machine.{Config}
 use Rattle.tick_machine.specs.Story.{Served, Story, ticking}
 use Rattle.tick_machine.specs.Law.{On, idle, Unsent}
@@ -18,9 +18,9 @@ send_later i s clock l ws = send_waiting (λ vs. later i s vs ≤ later i s ws) 
 
 -- the packet that the line takes has the least stamp
 send_first : (clock : ℕ) (l : Line) (ws : List Packet) → Rising (λ p. p.stamp) ws → On (First ws) l → On (First (send clock l ws).waiting) (send clock l ws).line
-send_first clock free [] r h = idle
-send_first clock free (p ∷ ws) r h = onward_on p clock (p.size - 1) (all_map r.0 (λ q l e. l))
-send_first clock (sending p started n) ws r h = onward_on p started (n - 1) (line h)
+send_first clock None [] r h = idle
+send_first clock None (p ∷ ws) r h = onward_on p clock (p.size - 1) (all_map r.0 (λ q l e. l))
+send_first clock (Some b) ws r h = onward_on b.packet b.started (b.rest - 1) (line h)
 
 module _ (c : Config) (y : Story) (g : Good c y) where
   tick_backlog : Backlog (ticking c y)

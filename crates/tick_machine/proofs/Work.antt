@@ -1,9 +1,9 @@
 -- What the line does in a tick: it sends one byte of what is unsent, if there is any. Assumes nothing.
-use Rattle.std.proofs.Common.{◌≡◌, ℕ, zero, suc, ◌+◌, ◌-◌, ◌<◌, ◌≤◌, leb, ◌⊎◌, List, [], ◌∷◌, refl, inl, inr, ⊎_elim, arith}
+use Rattle.std.proofs.Common.{◌≡◌, ℕ, zero, suc, ◌+◌, ◌-◌, ◌<◌, ◌≤◌, leb, ◌⊎◌, List, [], ◌∷◌, refl, inl, inr, ⊎_elim, arith, Some, None}
 use Rattle.std.proofs.lemmas.Bool.Decides.{nat_tests}
 use Rattle.std.proofs.lemmas.Bool.{cases_lt, le-leb}
 use Rattle.tick_machine.specs.Lists.{total, only, All, none, more, Rising, insert}
-use Rattle.tick_machine.specs.Sender.{Packet, Departed, Line, free, sending, Sender, onward, leaving, send, sent_off}
+use Rattle.tick_machine.specs.Sender.{Packet, Departed, Line, sending, Sender, onward, leaving, send, sent_off}
 use Rattle.tick_machine.specs.Story.{going}
 use Rattle.tick_machine.specs.Law.{On, idle, busy, Unsent}
 use Rattle.tick_machine.specs.Books.{line_bytes, waiting_bytes, UnderWay}
@@ -49,21 +49,21 @@ due_none x (p ∷ ws) (more h t) = let ih = due_none x ws t in grind (arith, nat
 pub send_pending : (x long clock : ℕ) (l : Line) (ws : List Packet)
     → UnderWay l → Rising (λ p. p.stamp) ws → All (λ p. (1 ≤ p.size) × (p.size ≤ long)) ws
     → (pending_of x (send clock l ws) + 1 ≤ pending x l ws) ⊎ ((pending x l ws ≡ 0) × (pending_of x (send clock l ws) ≤ long - 1))
-send_pending x long clock free [] b r s = inr (refl, omega arith)
-send_pending x long clock free (p ∷ ws) b r (more h k) =
+send_pending x long clock None [] b r s = inr (refl, omega arith)
+send_pending x long clock None (p ∷ ws) b r (more h k) =
     let e = onward_bytes p clock (p.size - 1) in
     ⊎_elim
     (λ (above : x < p.stamp). let nothing = due_none x ws (all_map r.0 (λ q k. omega arith)) in inr (grind (arith, nat_tests), omega arith))
     (λ (within : p.stamp ≤ x). inl (grind (arith, nat_tests)))
     (cases_lt x p.stamp)
-send_pending x long clock (sending p started n) ws b r s = inl (omega (arith, onward_bytes p started (n - 1)))
+send_pending x long clock (Some on_it) ws b r s = inl (omega (arith, onward_bytes on_it.packet on_it.started (on_it.rest - 1)))
 
 -- all that is unsent falls by a byte, if there is one
 pub send_work : (clock : ℕ) (l : Line) (ws : List Packet) → UnderWay l → All (λ p. 1 ≤ p.size) ws
     → line_bytes (send clock l ws).line + waiting_bytes (send clock l ws).waiting ≡ (line_bytes l + waiting_bytes ws) - 1
-send_work clock free [] b h = refl
-send_work clock free (p ∷ ws) b h = omega (arith, onward_bytes p clock (p.size - 1), head h)
-send_work clock (sending p started n) ws b h = omega (arith, onward_bytes p started (n - 1))
+send_work clock None [] b h = refl
+send_work clock None (p ∷ ws) b h = omega (arith, onward_bytes p clock (p.size - 1), head h)
+send_work clock (Some on_it) ws b h = omega (arith, onward_bytes on_it.packet on_it.started (on_it.rest - 1))
 
 pub onward_on : {P : Packet → Type 0} (p : Packet) (started n : ℕ) → P p → On P (onward p started n)
 onward_on p started zero h = idle
@@ -74,9 +74,9 @@ pub send_unsent : {P : Packet → Type 0} (clock : ℕ) (s : Sender) → Unsent 
 send_unsent {P} clock s u = go s.line s.waiting u.on u.waits
   where
     go : (l : Line) (ws : List Packet) → On P l → All P ws → Unsent P (send clock l ws)
-    go free [] h k = record { on = idle; waits = none }
-    go free (p ∷ ws) h k = record { on = onward_on p clock (p.size - 1) (head k); waits = tail k }
-    go (sending p started n) ws h k = record { on = onward_on p started (n - 1) (line h); waits = k }
+    go None [] h k = record { on = idle; waits = none }
+    go None (p ∷ ws) h k = record { on = onward_on p clock (p.size - 1) (head k); waits = tail k }
+    go (Some b) ws h k = record { on = onward_on b.packet b.started (b.rest - 1) (line h); waits = k }
 
 -- what is gone: what was, and perhaps one that was unsent
 pub send_gone : (Q : Packet → ℕ → Type 0) (clock : ℕ) (s : Sender) (gone : List Departed)
@@ -90,25 +90,25 @@ send_gone Q clock s gone u g = go s.line s.waiting u.on u.waits
 
     go : (l : Line) (ws : List Packet) → On (λ p. Q p (clock + 1)) l → All (λ p. Q p (clock + 1)) ws
         → All (λ (d : Departed). Q d.packet d.left) (going (sent_off clock l ws) gone)
-    go free [] h k = g
-    go free (p ∷ ws) h k = last (p.size - 1) clock p (head k)
-    go (sending p started n) ws h k = last (n - 1) started p (line h)
+    go None [] h k = g
+    go None (p ∷ ws) h k = last (p.size - 1) clock p (head k)
+    go (Some b) ws h k = last (b.rest - 1) b.started b.packet (line h)
 
 -- what waits: a part of what did
 pub send_waiting : (P : List Packet → Type 0) (clock : ℕ) (l : Line) (ws : List Packet)
     → P ws → ((p : Packet) (vs : List Packet) → P (p ∷ vs) → P vs) → P (send clock l ws).waiting
-send_waiting P clock free [] h f = h
-send_waiting P clock free (p ∷ ws) h f = f p ws h
-send_waiting P clock (sending p started n) ws h f = h
+send_waiting P clock None [] h f = h
+send_waiting P clock None (p ∷ ws) h f = f p ws h
+send_waiting P clock (Some b) ws h f = h
 
 onward_under_way : (n started : ℕ) (p : Packet) → n < p.size → UnderWay (onward p started n)
 onward_under_way zero started p h = tt
 onward_under_way (suc n) started p h = (omega arith, h)
 
 pub send_under_way : (clock : ℕ) (l : Line) (ws : List Packet) → UnderWay l → All (λ p. 1 ≤ p.size) ws → UnderWay (send clock l ws).line
-send_under_way clock free [] b h = tt
-send_under_way clock free (p ∷ ws) b h = onward_under_way (p.size - 1) clock p (omega (arith, head h))
-send_under_way clock (sending p started n) ws b h = onward_under_way (n - 1) started p (omega arith)
+send_under_way clock None [] b h = tt
+send_under_way clock None (p ∷ ws) b h = onward_under_way (p.size - 1) clock p (omega (arith, head h))
+send_under_way clock (Some on_it) ws b h = onward_under_way (on_it.rest - 1) on_it.started on_it.packet (omega arith)
 
 -- an unsent packet has something pending
 pub live : (l : Line) (ws : List Packet) → UnderWay l → All (λ p. 1 ≤ p.size) ws
@@ -122,5 +122,5 @@ live l ws b h = (
 )
   where
     on : (k : Line) → UnderWay k → On (λ p. 1 ≤ pending p.stamp k ws) k
-    on free c = idle
-    on (sending p started n) c = busy (omega arith)
+    on None c = idle
+    on (Some b) c = busy (omega arith)

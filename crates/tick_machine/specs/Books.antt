@@ -1,12 +1,12 @@
 -- What stays true beside the law: the same work, the figures and totals as what happened, numbers held once, and everything small.
 -- Assumes nothing.
-use Rattle.std.specs.Prelude.{◌≡◌, ℕ, ◌+◌, ◌*◌, ◌<◌, ◌≤◌, List, length, ◌==◌, nat_lt, slice_index}
+use Rattle.std.specs.Prelude.{◌≡◌, ℕ, ◌+◌, ◌*◌, ◌<◌, ◌≤◌, List, length, ◌==◌, nat_lt, slice_index, Some, None}
 use Rattle.tick_machine.specs.declared.call.Call.{Call}
 use Rattle.tick_machine.specs.Lists.{total, only, Rising}
 use Rattle.tick_machine.specs.Slots.{round_length}
 use Rattle.tick_machine.specs.Round.{owed_to}
 use Rattle.tick_machine.specs.Owed.{shown_round}
-use Rattle.tick_machine.specs.Sender.{Packet, Departed, Line, free, sending, Sender}
+use Rattle.tick_machine.specs.Sender.{Packet, Departed, Line, Sender}
 use Rattle.tick_machine.specs.Machine.{Config, Machine}
 use Rattle.tick_machine.specs.Life.{last_tick, on_line, unsettled, events, after}
 use Rattle.tick_machine.specs.Story.{Arrival, Story, story}
@@ -18,8 +18,8 @@ TheStoryTellsTheCalls = (c : Config) (calls : List Call) → (story c (events c 
 
 -- the bytes left on the line, and the bytes of the waiting packets
 abbrev pub line_bytes : Line → ℕ
-line_bytes free = 0
-line_bytes (sending p started n) = n
+line_bytes None = 0
+line_bytes (Some s) = s.rest
 
 abbrev pub waiting_bytes : List Packet → ℕ
 waiting_bytes ws = total (λ p. p.size) ws
@@ -38,8 +38,8 @@ accepted_of i y = total (λ (a : Arrival). only (a.packet.session == i) a.packet
 
 -- those that are unsent: left on the line, or waiting
 abbrev pub line_rest : ℕ → Line → ℕ
-line_rest i free = 0
-line_rest i (sending p started n) = only (p.session == i) n
+line_rest i None = 0
+line_rest i (Some s) = only (s.packet.session == i) s.rest
 
 abbrev pub unsent_of : ℕ → Sender → ℕ
 unsent_of i s = line_rest i s.line + total (λ p. only (p.session == i) p.size) s.waiting
@@ -66,8 +66,8 @@ TotalsAddUp c m =
 
 -- the sum of f over the numbers of the unsettled packets: those that wait, are sent, have left, or are out
 abbrev pub over_line : (ℕ → ℕ) → Line → ℕ
-over_line f free = 0
-over_line f (sending p started n) = f p.number
+over_line f None = 0
+over_line f (Some s) = f s.packet.number
 
 abbrev pub over : (ℕ → ℕ) → Machine → ℕ
 over f m =
@@ -80,8 +80,8 @@ holds k m = over (λ x. only (x == k) 1) m
 
 -- between ticks, a packet on the line has some bytes left and not all
 abbrev pub UnderWay : Line → Type 0
-UnderWay free = Unit {0}
-UnderWay (sending p started n) = (1 ≤ n) × (n < p.size)
+UnderWay None = Unit {0}
+UnderWay (Some s) = (1 ≤ s.rest) × (s.rest < s.packet.size)
 
 -- an unsent packet is of a session of the link, has a length that may be, and a number that was given
 pub record Proper (c : Config) (m : Machine) (p : Packet) : Type 0 where

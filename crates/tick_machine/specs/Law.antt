@@ -1,18 +1,17 @@
 -- The law of every run, in the words of what happened. Assumes nothing.
-use Rattle.std.specs.Prelude.{◌≡◌, ℕ, ◌+◌, ◌-◌, ◌*◌, ◌/◌, ◌<◌, ◌≤◌, List, ◌++◌, length, Ok, ◌==◌, slice_index}
+use Rattle.std.specs.Prelude.{◌≡◌, ℕ, ◌+◌, ◌-◌, ◌*◌, ◌/◌, ◌<◌, ◌≤◌, List, ◌++◌, Ok, ◌==◌, slice_index, Some, None}
 use Rattle.tick_machine.specs.declared.call.Call.{Call}
 use Rattle.tick_machine.specs.Lists.{total, only, All}
 use Rattle.tick_machine.specs.Slots.{owner, round_length}
-use Rattle.tick_machine.specs.Round.{Round}
-use Rattle.tick_machine.specs.Sender.{Packet, Departed, Line, free, sending, Sender}
-use Rattle.tick_machine.specs.Machine.{Config, Machine}
+use Rattle.tick_machine.specs.Sender.{Packet, Departed, Sending, Line, free, Sender}
+use Rattle.tick_machine.specs.Machine.{Config}
 use Rattle.tick_machine.specs.Life.{Event, made, drafted, events}
 use Rattle.tick_machine.specs.Story.{Served, Arrival, Story, story}
 
 -- P holds of the packet on the line, if there is one
 pub data On (P : Packet → Type 0) : Line → Type 0 where
   idle : On P free
-  busy : {p : Packet} {started n : ℕ} → P p → On P (sending p started n)
+  busy : {s : Sending} → P s.packet → On P (Some s)
 
 -- P holds of every unsent packet: on the line or waiting
 pub record Unsent (P : Packet → Type 0) (s : Sender) : Type 0 where
@@ -34,8 +33,8 @@ served_of ws i y = total (λ (b : Served). only (owner ws b.slot == i) 1) y.serv
 
 -- the bytes of session i that the line has sent: those of the packets that have left, and those of the packet on the line
 abbrev pub sent_on : ℕ → Line → ℕ
-sent_on i free = 0
-sent_on i (sending p started n) = only (p.session == i) (p.size - n)
+sent_on i None = 0
+sent_on i (Some s) = only (s.packet.session == i) (s.packet.size - s.rest)
 
 abbrev pub sent_of : ℕ → Story → ℕ
 sent_of i y = sent_on i y.machine.sender.line + total (λ (d : Departed). only (d.packet.session == i) d.packet.size) y.gone

@@ -1,6 +1,6 @@
 -- The life of a link: making, adding sessions, opening, and the calls after it, with their answers. Checks run in the order written;
 -- a refused call changes nothing, and so does a reading. Assumes nothing.
-use Rattle.std.specs.Prelude.{ℕ, ◌+◌, ◌-◌, Bool, cond, ◌&&◌, List, [], ◌∷◌, ◌++◌, length, replicate, ℤ, pos, ◌-ℤ◌, Some, None, Ok, Err, Option, Result, ◌==◌, nat_le, nat_lt, slice_index}
+use Rattle.std.specs.Prelude.{ℕ, ◌+◌, ◌-◌, Bool, cond, ◌&&◌, List, [], ◌∷◌, ◌++◌, length, replicate, pos, ◌-ℤ◌, Some, None, Ok, Err, Option, Result, ◌==◌, nat_le, nat_lt, slice_index}
 use Rattle.tick_machine.specs.declared.refusal.LineRefusal.TheVariants.{Full}
 use Rattle.tick_machine.specs.declared.refusal.Refusal.{Refusal}
 use Rattle.tick_machine.specs.declared.refusal.Refusal.TheVariants.{LinkNumber, Largest, Capacity, FirstWeight, Weight, TooManySessions, TooMuchWeight, UnknownSession, Empty, TooLong, NoRoom, TooManyUnsettled, TickPassed, PastTheEnd, OtherLink, NotOut}
@@ -15,7 +15,7 @@ use Rattle.tick_machine.specs.declared.call.Answer.TheVariants.{Accepted, Moved,
 use Rattle.tick_machine.specs.Lists.{total, only}
 use Rattle.tick_machine.specs.Slots.{round_length}
 use Rattle.tick_machine.specs.declared.packet.SlipCopy.{SlipCopy}
-use Rattle.tick_machine.specs.Sender.{Departed, Line, free, sending}
+use Rattle.tick_machine.specs.Sender.{Departed, Line}
 use Rattle.tick_machine.specs.Desk.{first, slip, among, hand_out, file, return}
 use Rattle.tick_machine.specs.Round.{stamp}
 use Rattle.tick_machine.specs.Machine.{Config, Machine, opened, latest_tick, accept, tick, ticks, with_desk}
@@ -66,8 +66,8 @@ drafted c (w ∷ ws) = drafted (added c w) ws
 
 -- packets on the line: one or none
 abbrev pub on_line : Line → ℕ
-on_line free = 0
-on_line (sending p started n) = 1
+on_line None = 0
+on_line (Some s) = 1
 
 -- how many packets are unsettled: waiting, sending, left or out
 abbrev pub unsettled : Machine → ℕ

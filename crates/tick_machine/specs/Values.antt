@@ -1,8 +1,6 @@
 -- What an answer prints after its word: its values, or the numbers of its refusal. Assumes nothing.
 use Rattle.std.specs.Prelude.{List, [], ◌∷◌, map, ℤ, pos, Some, None, Option}
 use Rattle.tick_machine.specs.declared.packet.SlipCopy.{SlipCopy}
-use Rattle.tick_machine.specs.declared.call.Figures.{Figures}
-use Rattle.tick_machine.specs.declared.call.Totals.{Totals}
 use Rattle.tick_machine.specs.declared.call.Answer.{Answer}
 use Rattle.tick_machine.specs.declared.call.Answer.TheVariants.{Made, Added, Opened, Accepted, Moved, Collected, Filed, Returned, FiguresAre, TotalsAre, Refused}
 use Rattle.tick_machine.specs.Refusals.{numbers}

@@ -1,10 +1,10 @@
 -- Three rules that are easily taken for ours, and where each gives another answer. Nothing else uses them. Assumes nothing.
-use Rattle.std.specs.Prelude.{◌≡◌, ℕ, max, List, [], ◌∷◌, ◌++◌, reverse, Some, Option, slice_index}
+use Rattle.std.specs.Prelude.{◌≡◌, ℕ, max, List, [], ◌∷◌, ◌++◌, reverse, Some, Option, slice_index, None}
 use Rattle.tick_machine.specs.declared.call.Call.TheVariants.{MoveTo}
 use Rattle.tick_machine.specs.Lists.{final, insert}
 use Rattle.tick_machine.specs.Slots.{own_slots}
 use Rattle.tick_machine.specs.Round.{Round, granted, stamp}
-use Rattle.tick_machine.specs.Sender.{Packet, Line, free, sending, load, byte_of}
+use Rattle.tick_machine.specs.Sender.{Packet, Line, load, byte_of}
 use Rattle.tick_machine.specs.Machine.{Config, Machine, opened, packet, accept}
 use Rattle.tick_machine.specs.Life.{after}
 use Rattle.tick_machine.specs.Cases.{first_link, second_link, two_at_the_start, one_long}
@@ -15,8 +15,8 @@ stamp_from_next_alone ws i n r = final 0 (own_slots ws i n (slice_index r.next i
 
 -- WRONG: V is the stamp of the packet that is being sent.
 abbrev pub cursor_of_line : Line → Round → ℕ
-cursor_of_line free r = r.cursor
-cursor_of_line (sending p started n) r = p.stamp
+cursor_of_line None r = r.cursor
+cursor_of_line (Some s) r = s.packet.stamp
 
 abbrev pub stamp_from_line : List ℕ → ℕ → ℕ → Line → Round → ℕ
 stamp_from_line ws i n l r = final 0 (own_slots ws i n (max (cursor_of_line l r) (slice_index r.next i)))

@@ -11,11 +11,12 @@ pub struct Packet {
     pub latest: u64,
 }
 
-// The line: free, or sending a packet that was started at a tick and has some bytes left.
+// What the line sends, if it is not free: a packet that was started at a tick and has some bytes left.
 #[derive(Clone, Copy, PartialEq, Eq, Debug)]
-pub enum Line {
-    Free,
-    Sending(Packet, u64, u64),
+pub struct Sending {
+    pub packet: Packet,
+    pub started: u64,
+    pub rest: u64,
 }
 
 // A packet that has left, with its starting tick and its leaving tick.

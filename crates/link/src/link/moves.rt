@@ -13,7 +13,7 @@ use crate::limits::LAST_TICK;
 use crate::session::note_sent;
 use crate::table::place;
 use slot_clock::clock::SlotClock;
-use tick_machine::packet::{Departed, Line};
+use tick_machine::packet::{Departed, Sending};
 use tick_machine::refusal::Refusal;
 use waiting_line::line::WaitingLine;
 
@@ -24,17 +24,20 @@ impl<W: WaitingLine, S: SlotClock> Link<W, S> {
         ensures clock { self.new.clock ≡ self.old.clock }
     {
         match (self.line, self.waiting.least()) {
-            (Line::Free, Some(pair)) => {
+            (None, Some(pair)) => {
                 if let Some(i) = place(&self.table, pair.packet) {
                     let packet = self.table.remove(i);
                     let _ = self.waiting.take();
                     if packet.size > 0 {
-                        self.line = Line::Sending(packet, self.clock, packet.size);
+                        self.line = Some(Sending {
+                            packet,
+                            started: self.clock,
+                            rest: packet.size,
+                        });
                     }
                 }
             }
-            (Line::Free, None) => {}
-            (Line::Sending(_, _, _), _) => {}
+            (None, None) | (Some(_), _) => {}
         }
     }
 
@@ -43,8 +46,8 @@ impl<W: WaitingLine, S: SlotClock> Link<W, S> {
         ensures { result ≡ reach_of self.now.line span }
     {
         match self.line {
-            Line::Free => span,
-            Line::Sending(_, _, bytes) => span.min(bytes),
+            None => span,
+            Some(sending) => span.min(sending.rest),
         }
     }
 
@@ -53,15 +56,18 @@ impl<W: WaitingLine, S: SlotClock> Link<W, S> {
         ensures shows { (c : Config) (m : Machine) → Shown W.WaitingLine.pairs W.WaitingLine.capacity S.SlotClock.state c m self.old → Carries c bytes m → Shown W.WaitingLine.pairs W.WaitingLine.capacity S.SlotClock.state c (send_bytes bytes m) self.new }
         ensures clock { self.new.clock ≡ self.old.clock }
     {
-        if let Line::Sending(packet, started, rest) = self.line {
-            note_sent(&mut self.sessions, packet.session, bytes);
-            if bytes < rest {
-                self.line = Line::Sending(packet, started, rest - bytes);
+        if let Some(sending) = self.line {
+            note_sent(&mut self.sessions, sending.packet.session, bytes);
+            if bytes < sending.rest {
+                self.line = Some(Sending {
+                    rest: sending.rest - bytes,
+                    ..sending
+                });
             } else {
-                self.line = Line::Free;
+                self.line = None;
                 self.left.push_reserved(Departed {
-                    packet,
-                    started,
+                    packet: sending.packet,
+                    started: sending.started,
                     left: self.clock,
                 });
             }

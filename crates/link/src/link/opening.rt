@@ -4,7 +4,6 @@ ghost use Rattle.link.specs.Opened.{Opened};
 use super::Link;
 use crate::draft::Draft;
 use slot_clock::clock::SlotClock;
-use tick_machine::packet::Line;
 use waiting_line::line::WaitingLine;
 
 impl<W: WaitingLine, S: SlotClock> Link<W, S> {
@@ -31,7 +30,7 @@ impl<W: WaitingLine, S: SlotClock> Link<W, S> {
             sessions,
             clock: 0,
             count: 0,
-            line: Line::Free,
+            line: None,
             table,
             left,
             out,

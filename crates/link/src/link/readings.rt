@@ -9,7 +9,7 @@ ghost use Rattle.link.specs.Promise.{Keeps, LeadBounded};
 use super::Link;
 use slot_clock::clock::SlotClock;
 use tick_machine::call::{Figures, Totals};
-use tick_machine::packet::{Line, Packet};
+use tick_machine::packet::Packet;
 use tick_machine::refusal::Refusal;
 use waiting_line::line::WaitingLine;
 
@@ -47,8 +47,8 @@ impl<W: WaitingLine, S: SlotClock> Link<W, S> {
         ensures { result ≡ on_line self.now.line }
     {
         match self.line {
-            Line::Free => 0,
-            Line::Sending(_, _, _) => 1,
+            None => 0,
+            Some(_) => 1,
         }
     }
 

@@ -1,16 +1,16 @@
 -- The checks of an arrival. Assumes nothing.
-use Rattle.std.proofs.Common.{◌≡◌, ℕ, ◌+◌, ◌<◌, ◌≤◌, Bool, true, false, cond, ltb, leb, List, length, Ok, Err, vec_len, Result, sym, refl, ap, ◌∙◌, arith}
+use Rattle.std.proofs.Common.{◌≡◌, ℕ, ◌+◌, ◌<◌, ◌≤◌, Bool, true, false, cond, ltb, leb, length, Ok, Err, vec_len, Result, sym, refl, ap, ◌∙◌, arith}
 use lib.ListN.{length-map}
 use Rattle.std.proofs.lemmas.Bool.{lt-ltb, le-ltb, le-leb, cond-true, cond-false}
+use Rattle.waiting_line.specs.declared.line.WaitingLine.{Ghosts as WaitingLine}
+use Rattle.slot_clock.specs.declared.clock.SlotClock.{Ghosts as SlotClock}
 use Rattle.tick_machine.specs.declared.refusal.LineRefusal.{LineRefusal}
 use Rattle.tick_machine.specs.declared.refusal.LineRefusal.TheVariants.{Full}
 use Rattle.tick_machine.specs.declared.refusal.Refusal.{Refusal}
 use Rattle.tick_machine.specs.declared.refusal.Refusal.TheVariants.{UnknownSession, Empty, TooLong, NoRoom, TooManyUnsettled}
 use Rattle.tick_machine.specs.Machine.{Config, Machine}
 use Rattle.tick_machine.specs.Life.{on_line, unsettled, offer, arrival}
-use Rattle.waiting_line.specs.declared.pair.Pair.{Pair}
 use Rattle.waiting_line.specs.Lines.{room_answer}
-use Rattle.slot_clock.specs.State.{SlotState}
 use Rattle.link.specs.declared.link.Link.{Link}
 use Rattle.link.specs.Admission.{admission}
 use Rattle.link.specs.Shown.{pair, Shown}
@@ -49,8 +49,8 @@ pub arrival_refused : (c : Config) (i n : ℕ) (m : Machine) (x : Refusal) → E
 arrival_refused c i n m x e = arrival_is c i n m ∙ ap (λ r. offered r (offer c i n m)) (sym e)
 
 -- what a link and the machine that it shows have in common
-module _ {W S : Type 0} {pairs : W → List Pair} {capacity : W → ℕ} {state : S → SlotState} {c : Config} {m : Machine} {l : Link W S} (s : Shown pairs capacity state c m l) where
-  pub many_waiting : length (pairs l.waiting) ≡ length m.sender.waiting
+module _ {W S : Type 0} {line : WaitingLine W} {clock : SlotClock S} {c : Config} {m : Machine} {l : Link W S} (s : Shown line clock c m l) where
+  pub many_waiting : length (line.pairs l.waiting) ≡ length m.sender.waiting
   many_waiting = ap length s.pairs_are ∙ length-map m.sender.waiting pair
 
   pub many_tabled : vec_len l.table ≡ length m.sender.waiting
@@ -75,7 +75,7 @@ module _ {W S : Type 0} {pairs : W → List Pair} {capacity : W → ℕ} {state 
         ∙ cond-true (leb n c.largest) _ _ (le-leb _ _ (omega (arith, s.largest_is))) ∙ e
         )
 
-    room_is : room_answer (pairs l.waiting) (capacity l.waiting) ≡ cond (ltb (length m.sender.waiting) c.capacity) (Ok tt) (Err Full)
+    room_is : room_answer (line.pairs l.waiting) (line.capacity l.waiting) ≡ cond (ltb (length m.sender.waiting) c.capacity) (Ok tt) (Err Full)
     room_is = λ k. cond (ltb (many_waiting k) (s.capacity_is k)) (Ok tt) (Err Full)
 
     ok_err : (b : Bool) (e : LineRefusal) → ◌≡◌ {A = Result (Unit {0}) LineRefusal} (Err e) (cond b (Ok tt) (Err Full)) → (b ≡ false) × (e ≡ Full)
@@ -86,12 +86,12 @@ module _ {W S : Type 0} {pairs : W → List Pair} {capacity : W → ℕ} {state 
     err_ok true u h = refl
     err_ok false u h = let z : ◌≡◌ {A = ℕ} 0 1 = cc in absurd (omega arith)
 
-    pub full_refused : (e : LineRefusal) → Err e ≡ room_answer (pairs l.waiting) (capacity l.waiting) → Err (NoRoom e) ≡ admission c i n m
+    pub full_refused : (e : LineRefusal) → Err e ≡ room_answer (line.pairs l.waiting) (line.capacity l.waiting) → Err (NoRoom e) ≡ admission c i n m
     full_refused e h =
         let f = ok_err (ltb (length m.sender.waiting) c.capacity) e (h ∙ room_is) in
         ap (λ x. Err (NoRoom x)) f.1 ∙ before _ (cond-false (ltb (length m.sender.waiting) c.capacity) _ _ f.0)
 
-    module _ (u : Unit {0}) (room : Ok u ≡ room_answer (pairs l.waiting) (capacity l.waiting)) where
+    module _ (u : Unit {0}) (room : Ok u ≡ room_answer (line.pairs l.waiting) (line.capacity l.waiting)) where
       roomy : ltb (length m.sender.waiting) c.capacity ≡ true
       roomy = err_ok (ltb (length m.sender.waiting) c.capacity) u (room ∙ room_is)
 

@@ -2,6 +2,8 @@
 use Rattle.std.proofs.Common.{◌≡◌, ℕ, zero, suc, ◌+◌, ◌-◌, ◌^◌, ◌<◌, ◌≤◌, min, max, false, cond, ◌&&◌, eqb, ltb, leb, List, [], ◌∷◌, ◌++◌, map, length, get_or, is_ok, Ok, Err, vec_items, vec_len, Result, sym, refl, ap, ◌∙◌, subst, arith}
 use Rattle.std.proofs.lemmas.Bool.Decides.{nat_tests}
 use Rattle.std.proofs.lemmas.Bool.{cond_both, cond-true, cond-false, lt-ltb, le-leb, ne_eqb, and_from, or_from}
+use Rattle.waiting_line.specs.declared.line.WaitingLine.{Ghosts as WaitingLine}
+use Rattle.slot_clock.specs.declared.clock.SlotClock.{Ghosts as SlotClock}
 use Rattle.tick_machine.specs.declared.packet.Packet.{Packet}
 use Rattle.tick_machine.specs.declared.refusal.LineRefusal.{LineRefusal}
 use Rattle.tick_machine.specs.declared.refusal.Refusal.{Refusal}
@@ -103,15 +105,15 @@ module _ (ps : List Pair) (most : ℕ) (p : Packet) (ws : List Packet) (are : ps
   pub line_put : put_after ps most (pair p) ≡ map pair (insert (λ q. q.stamp) p ws)
   line_put = ap (λ r. cond (is_ok r) (insert stamp_of (pair p) ps) ps) line_puts ∙ ap (insert stamp_of (pair p)) are ∙ map_insert p ws
 
-module _ {W S : Type 0} {pairs : W → List Pair} {capacity : W → ℕ} {state : S → SlotState} {c : Config} {calls : List Call} {l : Link W S}
-    (h : Led pairs capacity state c calls l) (i n tag : ℕ) where
-  pub refused_goes : (e : Refusal) → Err e ≡ admission c i n (after c calls) → Goes pairs capacity state c calls l (Arrive i n tag) (told arrived (Err e)) l
+module _ {W S : Type 0} {line : WaitingLine W} {clock : SlotClock S} {c : Config} {calls : List Call} {l : Link W S}
+    (h : Led line clock c calls l) (i n tag : ℕ) where
+  pub refused_goes : (e : Refusal) → Err e ≡ admission c i n (after c calls) → Goes line clock c calls l (Arrive i n tag) (told arrived (Err e)) l
   refused_goes e v =
       let r = arrival_refused c i n (after c calls) e v in
       record {
         led = record {
           drafted = h.drafted;
-          shown = subst (λ (x : Result (ℕ × ℕ × ℕ) Refusal). Shown pairs capacity state c (steps c (if_granted x (accepted i n tag ∷ [])) (after c calls)) l) (sym r) h.shown;
+          shown = subst (λ (x : Result (ℕ × ℕ × ℕ) Refusal). Shown line clock c (steps c (if_granted x (accepted i n tag ∷ [])) (after c calls)) l) (sym r) h.shown;
         };
         told = ap (told arrived) (sym r);
         kept = λ _. refl;
@@ -159,24 +161,24 @@ module _ {W S : Type 0} {pairs : W → List Pair} {capacity : W → ℕ} {state 
         let low = (all_inserted {P = λ q. q.stamp < get_or (accept c i n tag (after c calls)).round.next q.session 0} p (after c calls).sender.waiting next_small.stamps.waits).0 in
         omega (arith, low, next_small.next_limit i)
 
-    adds : add_answer (state l.slots) i n ≡ Ok st
+    adds : add_answer (clock.state l.slots) i n ≡ Ok st
     unfolding st
     adds =
         let m = after c calls in
         ap (λ x. add_answer x i n) h.shown.state_is
         ∙ clock_adds c.weights m.clock i n m.round (orderly c h.drafted calls).rounded a.session a.some (omega (arith, a.short, fit.largest)) few
 
-    added : add_after (state l.slots) i n ≡ state_of c.weights (after c calls).clock (add c.weights i n (after c calls).round)
+    added : add_after (clock.state l.slots) i n ≡ state_of c.weights (after c calls).clock (add c.weights i n (after c calls).round)
     added =
         let m = after c calls in
         ap (λ x. add_after x i n) h.shown.state_is
         ∙ clock_added c.weights m.clock i n m.round (orderly c h.drafted calls).rounded a.session a.some (omega (arith, a.short, fit.largest)) few
 
     -- the slot clock does not refuse
-    pub never_refused : (e : ClockRefusal) → Err e ≡ add_answer (state l.slots) i n → ⊥
+    pub never_refused : (e : ClockRefusal) → Err e ≡ add_answer (clock.state l.slots) i n → ⊥
     never_refused e x = let y = x ∙ adds in let z : ◌≡◌ {A = ℕ} 0 1 = cc in omega arith
 
-    module _ (s : ℕ) (is : Ok s ≡ add_answer (state l.slots) i n) where
+    module _ (s : ℕ) (is : Ok s ≡ add_answer (clock.state l.slots) i n) where
       same : s ≡ st
       same = let y = is ∙ adds in cc
 
@@ -184,29 +186,29 @@ module _ {W S : Type 0} {pairs : W → List Pair} {capacity : W → ℕ} {state 
       unfolding st
       pair_is = λ k. record { stamp = same k; packet = h.shown.count_is k }
 
-      room : length (pairs l.waiting) < capacity l.waiting
+      room : length (line.pairs l.waiting) < line.capacity l.waiting
       room = omega (arith, many_waiting h.shown, h.shown.capacity_is, a.room)
 
       -- the waiting line does not refuse
-      puts : put_answer (pairs l.waiting) (capacity l.waiting) (record { stamp = s; packet = l.count }) ≡ Ok tt
+      puts : put_answer (line.pairs l.waiting) (line.capacity l.waiting) (record { stamp = s; packet = l.count }) ≡ Ok tt
       puts =
-          ap (put_answer (pairs l.waiting) (capacity l.waiting)) pair_is
-          ∙ line_puts (pairs l.waiting) (capacity l.waiting) (packet c i n tag (after c calls)) (after c calls).sender.waiting h.shown.pairs_are room next_well.rising
+          ap (put_answer (line.pairs l.waiting) (line.capacity l.waiting)) pair_is
+          ∙ line_puts (line.pairs l.waiting) (line.capacity l.waiting) (packet c i n tag (after c calls)) (after c calls).sender.waiting h.shown.pairs_are room next_well.rising
 
-      pub never_full : (e : LineRefusal) → Err e ≡ put_answer (pairs l.waiting) (capacity l.waiting) (record { stamp = s; packet = l.count }) → ⊥
+      pub never_full : (e : LineRefusal) → Err e ≡ put_answer (line.pairs l.waiting) (line.capacity l.waiting) (record { stamp = s; packet = l.count }) → ⊥
       never_full e x = let y = x ∙ puts in let z : ◌≡◌ {A = ℕ} 0 1 = cc in omega arith
 
-      put : put_after (pairs l.waiting) (capacity l.waiting) (record { stamp = s; packet = l.count }) ≡ map pair (accept c i n tag (after c calls)).sender.waiting
+      put : put_after (line.pairs l.waiting) (line.capacity l.waiting) (record { stamp = s; packet = l.count }) ≡ map pair (accept c i n tag (after c calls)).sender.waiting
       put =
-          ap (put_after (pairs l.waiting) (capacity l.waiting)) pair_is
-          ∙ line_put (pairs l.waiting) (capacity l.waiting) (packet c i n tag (after c calls)) (after c calls).sender.waiting h.shown.pairs_are room next_well.rising
+          ap (put_after (line.pairs l.waiting) (line.capacity l.waiting)) pair_is
+          ∙ line_put (line.pairs l.waiting) (line.capacity l.waiting) (packet c i n tag (after c calls)) (after c calls).sender.waiting h.shown.pairs_are room next_well.rising
 
       pub accepted_fits : get_or (map (λ x. x.accepted) (vec_items l.sessions)) i 0 + n < 2 ^ 64
       accepted_fits =
           subst (λ xs. get_or xs i 0 + n < 2 ^ 64) (sym h.shown.accepted_are)
           (omega (arith, (reached_small c h.drafted calls).accepted i, (reached_small c h.drafted calls).clock, a.short, fit.largest))
 
-      module _ (cursor latest : ℕ) (at : cursor ≡ (state l.slots).cursor) (late : latest ≡ min (min (l.clock + (s - cursor)) 18446744073709551615 + l.largest) 18446744073709551615) where
+      module _ (cursor latest : ℕ) (at : cursor ≡ (clock.state l.slots).cursor) (late : latest ≡ min (min (l.clock + (s - cursor)) 18446744073709551615 + l.largest) 18446744073709551615) where
         latest_is : latest ≡ latest_tick c (after c calls) st
         unfolding st
         latest_is =
@@ -221,21 +223,21 @@ module _ {W S : Type 0} {pairs : W → List Pair} {capacity : W → ℕ} {state 
         new_is = λ k. record { number = h.shown.count_is k; session = i; size = n; tag = tag; stamp = same k; latest = latest_is k }
 
         pub accepted_goes : (l' : Link W S)
-            → state l'.slots ≡ add_after (state l.slots) i n
-            → pairs l'.waiting ≡ put_after (pairs l.waiting) (capacity l.waiting) (record { stamp = s; packet = l.count }) → capacity l'.waiting ≡ capacity l.waiting
+            → clock.state l'.slots ≡ add_after (clock.state l.slots) i n
+            → line.pairs l'.waiting ≡ put_after (line.pairs l.waiting) (line.capacity l.waiting) (record { stamp = s; packet = l.count }) → line.capacity l'.waiting ≡ line.capacity l.waiting
             → vec_items l'.table ≡ vec_items l.table ++ record { number = l.count; session = i; size = n; tag = tag; stamp = s; latest = latest } ∷ []
             → l'.count ≡ min (l.count + 1) 18446744073709551615
             → map (λ x. x.accepted) (vec_items l'.sessions) ≡ raise i n (map (λ x. x.accepted) (vec_items l.sessions))
             → map (λ x. x.sent) (vec_items l'.sessions) ≡ map (λ x. x.sent) (vec_items l.sessions) → vec_len l'.sessions ≡ vec_len l.sessions
             → l'.number ≡ l.number → l'.largest ≡ l.largest → l'.clock ≡ l.clock → l'.line ≡ l.line → l'.left ≡ l.left → l'.out ≡ l.out → l'.filed ≡ l.filed → l'.returned ≡ l.returned
-            → Goes pairs capacity state c calls l (Arrive i n tag) (told arrived (Ok (l.count, s, latest))) l'
+            → Goes line clock c calls l (Arrive i n tag) (told arrived (Ok (l.count, s, latest))) l'
         unfolding st
         accepted_goes l' es ep ec et ei ea eb ev en em ek el ef eo eg er =
             let x = h.shown in
             let m = after c calls in
             let p = packet c i n tag m in
             let low : All (λ q. q.number < m.count) m.sender.waiting = all_map (reached_well c h.drafted calls).proper.waits (λ q w. w.number) in
-            let shown : Shown pairs capacity state c (accept c i n tag m) l'
+            let shown : Shown line clock c (accept c i n tag m) l'
             = record {
               pairs_are = ep ∙ put;
               capacity_is = ec ∙ x.capacity_is;
@@ -255,7 +257,7 @@ module _ {W S : Type 0} {pairs : W → List Pair} {capacity : W → ℕ} {state 
               returned_is = er ∙ x.returned_is;
             } in
             record {
-              led = record { drafted = h.drafted; shown = subst (λ (b : Machine). Shown pairs capacity state c b l') (sym next_is) shown };
+              led = record { drafted = h.drafted; shown = subst (λ (b : Machine). Shown line clock c b l') (sym next_is) shown };
               told = (λ k. arrived (x.count_is k, same k, latest_is k)) ∙ ap (told arrived) (sym grants);
               kept = λ q. let y : ◌≡◌ {A = ℕ} 0 1 = cc in absurd (omega arith);
               law = lawful c h.drafted (Arrive i n tag ∷ calls);

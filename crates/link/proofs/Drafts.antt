@@ -3,12 +3,12 @@ use Rattle.std.proofs.Common.{◌≡◌, ℕ, ◌+◌, ◌<◌, ◌≤◌, true,
 use lib.ListN.{length-replicate}
 use Rattle.std.proofs.lemmas.List.{replicate_more}
 use Rattle.std.proofs.lemmas.Bool.{lt-ltb, le-leb, and_from, and_parts, cond-true}
+use Rattle.waiting_line.specs.declared.line.WaitingLine.{Ghosts as WaitingLine}
 use Rattle.tick_machine.specs.Slots.{round_length}
 use Rattle.tick_machine.specs.Machine.{Config}
 use Rattle.tick_machine.specs.Life.{adding, with_session, added, drafted}
 use Rattle.tick_machine.specs.Law.{Drafted}
 use Rattle.tick_machine.proofs.Places.{total_push}
-use Rattle.waiting_line.specs.declared.pair.Pair.{Pair}
 use Rattle.slot_clock.specs.Calls.{no_zero}
 use Rattle.link.specs.declared.session.Session.{Session}
 use Rattle.link.specs.declared.draft.Draft.{Draft}
@@ -44,10 +44,10 @@ drafted_more c w d = record {
   is = drafted_push d.first d.addings w ∙ ap (λ (x : Config). added x w) d.is;
 }
 
-module _ {W : Type 0} {pairs : W → List Pair} {capacity : W → ℕ} {c : Config} {d : Draft W} (h : Drafts pairs capacity c d) (w : ℕ) where
+module _ {W : Type 0} {line : WaitingLine W} {c : Config} {d : Draft W} (h : Drafts line c d) (w : ℕ) where
   pub session_added : (n : ℕ) (d' : Draft W) → n ≡ vec_len d.weights → 0 < w → vec_len d.weights < 64 → d.round + w ≤ 4096 → d.round ≡ round_length (vec_items d.weights)
       → vec_items d'.weights ≡ vec_items d.weights ++ w ∷ [] → d'.waiting ≡ d.waiting → d'.number ≡ d.number → d'.largest ≡ d.largest
-      → Adds pairs capacity c d w (Ok n) d'
+      → Adds line c d w (Ok n) d'
   session_added n d' is some few light sum ew ep en el =
       let many : vec_len d.weights ≡ length c.weights = d.weights.ok.0 ∙ ap length h.weights_are in
       let all : d.round ≡ round_length c.weights = sum ∙ ap round_length h.weights_are in
@@ -59,8 +59,8 @@ module _ {W : Type 0} {pairs : W → List Pair} {capacity : W → ℕ} {c : Conf
         told = ap Ok (is ∙ many) ∙ sym ok;
         drafts = record {
           drafted = drafted_more c w h.drafted;
-          pairs_none = ap pairs ep ∙ h.pairs_none;
-          capacity_is = ap capacity ep ∙ h.capacity_is ∙ ap (λ (x : Config). x.capacity) (sym next);
+          pairs_none = ap line.pairs ep ∙ h.pairs_none;
+          capacity_is = ap line.capacity ep ∙ h.capacity_is ∙ ap (λ (x : Config). x.capacity) (sym next);
           number_is = en ∙ h.number_is ∙ ap (λ (x : Config). x.link) (sym next);
           largest_is = el ∙ h.largest_is ∙ ap (λ (x : Config). x.largest) (sym next);
           weights_are = ew ∙ ap (λ xs. xs ++ w ∷ []) h.weights_are ∙ ap (λ (x : Config). x.weights) (sym next);

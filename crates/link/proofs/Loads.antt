@@ -1,6 +1,8 @@
 -- What a link shows when its line takes a packet. Assumes nothing.
 use Rattle.std.proofs.Common.{◌≡◌, ℕ, ◌≤◌, List, [], ◌∷◌, map, get_or, Some, vec_items, vec_len, sym, refl, ap, ◌∙◌, subst, arith, None}
 use Rattle.std.specs.List.{remove}
+use Rattle.waiting_line.specs.declared.line.WaitingLine.{Ghosts as WaitingLine}
+use Rattle.slot_clock.specs.declared.clock.SlotClock.{Ghosts as SlotClock}
 use Rattle.tick_machine.specs.declared.packet.Packet.{Packet}
 use Rattle.tick_machine.specs.Sender.{Line, free, sending}
 use Rattle.tick_machine.specs.Lists.{All}
@@ -9,7 +11,6 @@ use Rattle.tick_machine.specs.Machine.{Config, Machine}
 use Rattle.tick_machine.proofs.Lists.{head}
 use Rattle.waiting_line.specs.declared.pair.Pair.{Pair}
 use Rattle.waiting_line.specs.Lines.{first, rest}
-use Rattle.slot_clock.specs.State.{SlotState}
 use Rattle.link.specs.declared.link.Link.{Link}
 use Rattle.link.specs.Places.{At, Nowhere}
 use Rattle.link.specs.Stretch.{loaded}
@@ -30,8 +31,8 @@ next clock None [] t e f = let z : ◌≡◌ {A = ℕ} 0 1 = cc in absurd (omega
 next clock None (p ∷ ws) t e f = record { it = p; others = ws; waits = refl; named = cc; loads = refl }
 next clock (Some b) ws t e f = let z : ◌≡◌ {A = ℕ} 0 1 = cc in absurd (omega arith)
 
-module _ {W S : Type 0} {pairs : W → List Pair} {capacity : W → ℕ} {state : S → SlotState} {c : Config} {m : Machine} {l : Link W S}
-    (s : Shown pairs capacity state c m l) (o : Orderly c m) (t : Pair) (idle : l.line ≡ free) (least : Some t ≡ first (pairs l.waiting)) where
+module _ {W S : Type 0} {line : WaitingLine W} {clock : SlotClock S} {c : Config} {m : Machine} {l : Link W S}
+    (s : Shown line clock c m l) (o : Orderly c m) (t : Pair) (idle : l.line ≡ free) (least : Some t ≡ first (line.pairs l.waiting)) where
   n : Next m.clock m.sender.line m.sender.waiting t
   n = next m.clock m.sender.line m.sender.waiting t (sym s.line_is ∙ idle) (least ∙ ap first s.pairs_are)
 
@@ -59,14 +60,14 @@ module _ {W S : Type 0} {pairs : W → List Pair} {capacity : W → ℕ} {state 
     load_some = subst (λ (q : Packet). 1 ≤ q.size) (sym same) (head (subst (All (λ q. 1 ≤ q.size)) n.waits o.sized))
 
     pub load_shown : (l' : Link W S)
-        → pairs l'.waiting ≡ rest (pairs l.waiting) → capacity l'.waiting ≡ capacity l.waiting → vec_items l'.table ≡ remove (vec_items l.table) i → l'.line ≡ sending p l.clock p.size
+        → line.pairs l'.waiting ≡ rest (line.pairs l.waiting) → line.capacity l'.waiting ≡ line.capacity l.waiting → vec_items l'.table ≡ remove (vec_items l.table) i → l'.line ≡ sending p l.clock p.size
         → l'.slots ≡ l.slots → l'.number ≡ l.number → l'.largest ≡ l.largest → l'.sessions ≡ l.sessions → l'.clock ≡ l.clock → l'.count ≡ l.count
         → l'.left ≡ l.left → l'.out ≡ l.out → l'.filed ≡ l.filed → l'.returned ≡ l.returned
-        → Shown pairs capacity state c (loaded m) l'
+        → Shown line clock c (loaded m) l'
     load_shown l' ep ec et el es en em ev ek ei ef eo eg er = record {
       pairs_are = ep ∙ ap rest s.pairs_are ∙ ap (λ ws. rest (map pair ws)) n.waits ∙ ap (λ (x : Sender). map pair x.waiting) (sym n.loads);
       capacity_is = ec ∙ s.capacity_is;
-      state_is = ap state es ∙ s.state_is;
+      state_is = ap clock.state es ∙ s.state_is;
       number_is = en ∙ s.number_is;
       largest_is = em ∙ s.largest_is;
       many = ap vec_len ev ∙ s.many;

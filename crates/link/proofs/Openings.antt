@@ -2,12 +2,13 @@
 use Rattle.std.proofs.Common.{◌≡◌, ℕ, zero, suc, ◌≤◌, true, ◌&&◌, ltb, leb, List, [], ◌∷◌, map, length, replicate, Ok, vec_items, vec_len, sym, refl, ap, ◌∙◌, arith}
 use lib.ListN.{length-replicate}
 use Rattle.std.proofs.lemmas.Bool.{lt-ltb, le-leb, and_from, cond-true}
+use Rattle.waiting_line.specs.declared.line.WaitingLine.{Ghosts as WaitingLine}
+use Rattle.slot_clock.specs.declared.clock.SlotClock.{Ghosts as SlotClock}
 use Rattle.tick_machine.specs.Slots.{round_length}
 use Rattle.tick_machine.specs.Round.{fresh_round}
 use Rattle.tick_machine.specs.Machine.{Config}
 use Rattle.tick_machine.proofs.Stands.{law}
-use Rattle.waiting_line.specs.declared.pair.Pair.{Pair}
-use Rattle.slot_clock.specs.State.{SlotState, state_of}
+use Rattle.slot_clock.specs.State.{state_of}
 use Rattle.slot_clock.specs.Calls.{no_zero, made_answer}
 use Rattle.link.specs.declared.session.Session.{Session}
 use Rattle.link.specs.declared.draft.Draft.{Draft}
@@ -26,24 +27,24 @@ makes ws some few weighty light =
     cond-true (ltb 0 (length ws) && leb (length ws) 64) _ _ (and_from _ _ (lt-ltb _ _ some) (le-leb _ _ few))
     ∙ cond-true (no_zero ws && leb (round_length ws) 4096) _ _ (and_from _ _ weighty (le-leb _ _ light))
 
-module _ {W S : Type 0} {pairs : W → List Pair} {capacity : W → ℕ} {state : S → SlotState} {c : Config} (d : Draft W) (h : Drafts pairs capacity c d) where
-  pub opens : (items : List ℕ) → items ≡ vec_items d.weights → (slots : S) → Ok (state slots) ≡ made_answer items
-      → (l : Link W S) → Opened d slots l → Opens pairs capacity state c l d.round
+module _ {W S : Type 0} {line : WaitingLine W} {clock : SlotClock S} {c : Config} (d : Draft W) (h : Drafts line c d) where
+  pub opens : (items : List ℕ) → items ≡ vec_items d.weights → (slots : S) → Ok (clock.state slots) ≡ made_answer items
+      → (l : Link W S) → Opened d slots l → Opens line clock c l d.round
   opens items e slots made l o =
       let ws = c.weights in
       let many : vec_len d.weights ≡ length ws = d.weights.ok.0 ∙ ap length h.weights_are in
       let zeros : vec_items d.sessions ≡ replicate (length ws) (record { accepted = 0; sent = 0 }) = d.fresh ∙ ap (λ n. replicate n (record { accepted = 0; sent = 0 })) many in
-      let is : Ok (state slots) ≡ Ok (state_of ws 0 (fresh_round ws))
+      let is : Ok (clock.state slots) ≡ Ok (state_of ws 0 (fresh_round ws))
       = made ∙ ap made_answer (e ∙ h.weights_are)
       ∙ makes ws (omega (arith, many, d.some)) (omega (arith, many, d.few)) (ap no_zero (sym h.weights_are) ∙ d.weighty) (omega (arith, d.sum ∙ ap round_length h.weights_are, d.light)) in
-      let st : state slots ≡ state_of ws 0 (fresh_round ws) = cc in
+      let st : clock.state slots ≡ state_of ws 0 (fresh_round ws) = cc in
       record {
         led = record {
           drafted = h.drafted;
           shown = record {
-            pairs_are = ap pairs o.waiting_is ∙ h.pairs_none;
-            capacity_is = ap capacity o.waiting_is ∙ h.capacity_is;
-            state_is = ap state o.slots_are ∙ st;
+            pairs_are = ap line.pairs o.waiting_is ∙ h.pairs_none;
+            capacity_is = ap line.capacity o.waiting_is ∙ h.capacity_is;
+            state_is = ap clock.state o.slots_are ∙ st;
             number_is = o.number_is ∙ h.number_is;
             largest_is = o.largest_is ∙ h.largest_is;
             many = ap vec_len o.sessions_are ∙ d.sessions.ok.0 ∙ ap length zeros ∙ length-replicate (length ws) (record { accepted = 0; sent = 0 });

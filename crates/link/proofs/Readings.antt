@@ -4,6 +4,8 @@ use Rattle.std.proofs.lemmas.Bool.Decides.{nat_tests}
 use Rattle.std.proofs.lemmas.Int.{ints}
 use Rattle.std.proofs.lemmas.List.{take_more, get_or-map}
 use Rattle.std.proofs.lemmas.Bool.{lt-ltb, le-ltb, cond-true, cond-false}
+use Rattle.waiting_line.specs.declared.line.WaitingLine.{Ghosts as WaitingLine}
+use Rattle.slot_clock.specs.declared.clock.SlotClock.{Ghosts as SlotClock}
 use Rattle.tick_machine.specs.declared.packet.Packet.{Packet}
 use Rattle.tick_machine.specs.declared.refusal.Refusal.TheVariants.{UnknownSession}
 use Rattle.tick_machine.specs.declared.call.Call.{Call}
@@ -20,9 +22,7 @@ use Rattle.tick_machine.specs.Law.{served_of, sent_of}
 use Rattle.tick_machine.proofs.Places.{total_push}
 use Rattle.tick_machine.proofs.Histories.{story_tells}
 use Rattle.tick_machine.proofs.Stands.{law, figures_are_told}
-use Rattle.waiting_line.specs.declared.pair.Pair.{Pair}
 use Rattle.slot_clock.specs.declared.refusal.ClockRefusal.{ClockRefusal}
-use Rattle.slot_clock.specs.State.{SlotState}
 use Rattle.slot_clock.specs.Calls.{owed_answer}
 use Rattle.link.specs.declared.link.Link.{Link}
 use Rattle.link.specs.declared.session.Session.{Session}
@@ -56,11 +56,11 @@ getD_from f a zero i h = absurd (omega arith)
 getD_from f a (suc n) zero h = ap f (omega arith)
 getD_from f a (suc n) (suc i) h = getD_from f (suc a) n i (omega arith) ∙ ap f (omega arith)
 
-module _ {W S : Type 0} {pairs : W → List Pair} {capacity : W → ℕ} {state : S → SlotState} {c : Config} {calls : List Call} {l : Link W S}
-    (h : Led pairs capacity state c calls l) where
+module _ {W S : Type 0} {line : WaitingLine W} {clock : SlotClock S} {c : Config} {calls : List Call} {l : Link W S}
+    (h : Led line clock c calls l) where
   -- a reading leaves the machine as it is
-  pub totals_goes : (t : Totals) → t.waiting ≡ length (pairs l.waiting) → t.sending ≡ on_line l.line → t.left ≡ vec_len l.left → t.out ≡ vec_len l.out → t.filed ≡ l.filed → t.returned ≡ l.returned
-      → Goes pairs capacity state c calls l AskTotals (TotalsAre t) l
+  pub totals_goes : (t : Totals) → t.waiting ≡ length (line.pairs l.waiting) → t.sending ≡ on_line l.line → t.left ≡ vec_len l.left → t.out ≡ vec_len l.out → t.filed ≡ l.filed → t.returned ≡ l.returned
+      → Goes line clock c calls l AskTotals (TotalsAre t) l
   totals_goes t ew es el eo ef er =
       let s = h.shown in
       record {
@@ -78,7 +78,7 @@ module _ {W S : Type 0} {pairs : W → List Pair} {capacity : W → ℕ} {state 
       }
 
   module _ (i : ℕ) where
-    pub figures_refused : vec_len l.sessions ≤ i → Goes pairs capacity state c calls l (AskFigures i) (told FiguresAre (Err UnknownSession)) l
+    pub figures_refused : vec_len l.sessions ≤ i → Goes line clock c calls l (AskFigures i) (told FiguresAre (Err UnknownSession)) l
     figures_refused le = record {
       led = record { drafted = h.drafted; shown = h.shown };
       told = ap (told FiguresAre) (sym (cond-false (ltb i (length c.weights)) (Ok (figures_of i (after c calls))) (Err UnknownSession) (le-ltb _ _ (omega (arith, h.shown.many)))));
@@ -90,17 +90,17 @@ module _ {W S : Type 0} {pairs : W → List Pair} {capacity : W → ℕ} {state 
       known' : i < length c.weights
       known' = omega (arith, h.shown.many)
 
-      owes : owed_answer (state l.slots) i ≡ Ok (owed_to c.weights i (after c calls).round)
+      owes : owed_answer (clock.state l.slots) i ≡ Ok (owed_to c.weights i (after c calls).round)
       owes =
           let ws = c.weights in
           let m = after c calls in
           ap (λ x. owed_answer x i) h.shown.state_is ∙ cond-true (ltb i (length ws)) _ _ (lt-ltb _ _ known')
           ∙ ap Ok (getD_from (λ j. owed_to ws j m.round) 0 (length ws) i known' ∙ ap (λ j. owed_to ws j m.round) (omega arith))
 
-      pub owed_known : (e : ClockRefusal) → Err e ≡ owed_answer (state l.slots) i → ⊥
+      pub owed_known : (e : ClockRefusal) → Err e ≡ owed_answer (clock.state l.slots) i → ⊥
       owed_known e x = let y = x ∙ owes in let z : ◌≡◌ {A = ℕ} 0 1 = cc in omega arith
 
-      module _ (r : Session) (is : r ≡ get_or (vec_items l.sessions) i r) (owed : ℕ) (owed-is : Ok owed ≡ owed_answer (state l.slots) i) where
+      module _ (r : Session) (is : r ≡ get_or (vec_items l.sessions) i r) (owed : ℕ) (owed-is : Ok owed ≡ owed_answer (clock.state l.slots) i) where
         inside : i < length (vec_items l.sessions)
         inside = omega (arith, l.sessions.ok.0)
 
@@ -135,7 +135,7 @@ module _ {W S : Type 0} {pairs : W → List Pair} {capacity : W → ℕ} {state 
           lead_is = ed ∙ (λ k. pos (sent_is k) -ℤ pos ((ev ∙ served_is) k))
 
           pub figures_goes : (items : List Packet) → items ≡ vec_items l.table → waiting ≡ min (total (λ p. only (eqb p.session i) p.size) items) 18446744073709551615
-              → Goes pairs capacity state c calls l (AskFigures i) (told FiguresAre (Ok (record { accepted = r.accepted; sent = r.sent; served = served; lead = lead; waiting = waiting }))) l
+              → Goes line clock c calls l (AskFigures i) (told FiguresAre (Ok (record { accepted = r.accepted; sent = r.sent; served = served; lead = lead; waiting = waiting }))) l
           figures_goes items e ew = record {
             led = record { drafted = h.drafted; shown = h.shown };
             told = ap (told FiguresAre) (ap Ok (λ k. record { accepted = accepted_is k; sent = sent_is k; served = (ev ∙ served_is) k; lead = lead_is k; waiting = (ew ∙ waiting_is items e) k })

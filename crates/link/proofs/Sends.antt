@@ -1,5 +1,7 @@
 -- What a link shows when bytes of the packet on its line are sent. Assumes nothing.
 use Rattle.std.proofs.Common.{◌≡◌, ℕ, ◌+◌, ◌-◌, ◌^◌, ◌<◌, ◌≤◌, List, [], ◌∷◌, ◌++◌, map, get_or, vec_items, vec_len, sym, ap, ◌∙◌, subst, arith, Some, None}
+use Rattle.waiting_line.specs.declared.line.WaitingLine.{Ghosts as WaitingLine}
+use Rattle.slot_clock.specs.declared.clock.SlotClock.{Ghosts as SlotClock}
 use Rattle.tick_machine.specs.declared.packet.Packet.{Packet}
 use Rattle.tick_machine.specs.declared.packet.Departed.{Departed}
 use Rattle.tick_machine.specs.Sender.{Line, free, sending}
@@ -7,8 +9,6 @@ use Rattle.tick_machine.specs.Sender.{onward, leaving}
 use Rattle.tick_machine.specs.Desk.{joined}
 use Rattle.tick_machine.specs.Machine.{Config, Machine, raise}
 use Rattle.tick_machine.specs.Law.{On, busy}
-use Rattle.waiting_line.specs.declared.pair.Pair.{Pair}
-use Rattle.slot_clock.specs.State.{SlotState}
 use Rattle.link.specs.declared.link.Link.{Link}
 use Rattle.link.specs.Stretch.{line_after, leaver_after, sent_after, send_bytes, Carries}
 use Rattle.link.specs.Shown.{Shown}
@@ -19,8 +19,8 @@ pub on_packet : {P : Packet → Type 0} {p : Packet} {st n : ℕ} (l : Line) →
 on_packet None o e = let z : ◌≡◌ {A = ℕ} 0 1 = cc in absurd (omega arith)
 on_packet {P} {p} (Some on_it) (busy h) e = let f : on_it.packet ≡ p = cc in subst P f h
 
-module _ {W S : Type 0} {pairs : W → List Pair} {capacity : W → ℕ} {state : S → SlotState} {c : Config} {m : Machine} {l : Link W S}
-    (s : Shown pairs capacity state c m l) (k : ℕ) (carry : Carries c k m) (p : Packet) (st n : ℕ) (on : l.line ≡ sending p st n) where
+module _ {W S : Type 0} {line : WaitingLine W} {clock : SlotClock S} {c : Config} {m : Machine} {l : Link W S}
+    (s : Shown line clock c m l) (k : ℕ) (carry : Carries c k m) (p : Packet) (st n : ℕ) (on : l.line ≡ sending p st n) where
   on' : m.sender.line ≡ sending p st n
   on' = sym s.line_is ∙ on
 
@@ -36,11 +36,11 @@ module _ {W S : Type 0} {pairs : W → List Pair} {capacity : W → ℕ} {state 
       → l'.line ≡ line_after k (sending p st n) → vec_items l'.left ≡ joined (leaver_after l.clock k (sending p st n)) (vec_items l.left)
       → l'.waiting ≡ l.waiting → l'.slots ≡ l.slots → l'.number ≡ l.number → l'.largest ≡ l.largest → l'.clock ≡ l.clock → l'.count ≡ l.count
       → l'.table ≡ l.table → l'.out ≡ l.out → l'.filed ≡ l.filed → l'.returned ≡ l.returned
-      → Shown pairs capacity state c (send_bytes k m) l'
+      → Shown line clock c (send_bytes k m) l'
   send_shown l' eb ea ev el ef ew es en em ek ei et eo eg er = record {
-    pairs_are = ap pairs ew ∙ s.pairs_are;
-    capacity_is = ap capacity ew ∙ s.capacity_is;
-    state_is = ap state es ∙ s.state_is;
+    pairs_are = ap line.pairs ew ∙ s.pairs_are;
+    capacity_is = ap line.capacity ew ∙ s.capacity_is;
+    state_is = ap clock.state es ∙ s.state_is;
     number_is = en ∙ s.number_is;
     largest_is = em ∙ s.largest_is;
     many = ev ∙ s.many;

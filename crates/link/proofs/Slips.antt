@@ -2,6 +2,8 @@
 use Rattle.std.proofs.Common.{◌≡◌, ℕ, zero, suc, ◌+◌, ◌<◌, ◌≤◌, min, true, false, eqb, List, [], ◌∷◌, ◌++◌, map, length, get_or, Some, None, Ok, Err, vec_items, vec_len, Result, sym, refl, ap, ◌∙◌, subst, arith}
 use Rattle.std.proofs.lemmas.Bool.{eq-eqb, ne_eqb, or_left, or_right, or_from, cond-true, cond-false}
 use Rattle.std.specs.List.{remove}
+use Rattle.waiting_line.specs.declared.line.WaitingLine.{Ghosts as WaitingLine}
+use Rattle.slot_clock.specs.declared.clock.SlotClock.{Ghosts as SlotClock}
 use Rattle.tick_machine.specs.declared.packet.Departed.{Departed}
 use Rattle.tick_machine.specs.declared.refusal.Refusal.{Refusal}
 use Rattle.tick_machine.specs.declared.refusal.Refusal.TheVariants.{OtherLink, NotOut}
@@ -16,8 +18,6 @@ use Rattle.tick_machine.specs.Life.{settlement, settling, granted, slip_of, told
 use Rattle.tick_machine.specs.Law.{Lawful}
 use Rattle.tick_machine.specs.Books.{TotalsAddUp}
 use Rattle.tick_machine.proofs.Stands.{totals_do_add_up, after_calls}
-use Rattle.waiting_line.specs.declared.pair.Pair.{Pair}
-use Rattle.slot_clock.specs.State.{SlotState}
 use Rattle.link.specs.declared.link.Link.{Link}
 use Rattle.link.specs.declared.slip.Slip.{Slip}
 use Rattle.link.specs.Places.{At, Nowhere}
@@ -93,19 +93,19 @@ one_left : (ds : List Departed) (d : Departed) → 1 ≤ length ds → d ≡ get
 one_left [] d h e = absurd (omega arith)
 one_left (x ∷ ds) d h e = record { first_is = ap Some (sym e); rest_is = refl; handed_is = λ out. ap (λ (y : Departed). out ++ y.packet.number ∷ []) (sym e) }
 
-module _ {W S : Type 0} {pairs : W → List Pair} {capacity : W → ℕ} {state : S → SlotState} {c : Config} {calls : List Call} {l : Link W S}
-    (h : Led pairs capacity state c calls l) where
+module _ {W S : Type 0} {line : WaitingLine W} {clock : SlotClock S} {c : Config} {calls : List Call} {l : Link W S}
+    (h : Led line clock c calls l) where
   -- the same but for the desk
   desk_shown : (f : Desk → Desk) (l' : Link W S)
       → vec_items l'.left ≡ (f (after c calls).desk).left → vec_items l'.out ≡ (f (after c calls).desk).out → l'.filed ≡ (f (after c calls).desk).filed → l'.returned ≡ (f (after c calls).desk).returned
       → l'.waiting ≡ l.waiting → l'.slots ≡ l.slots → l'.number ≡ l.number → l'.largest ≡ l.largest → l'.sessions ≡ l.sessions → l'.clock ≡ l.clock → l'.count ≡ l.count → l'.line ≡ l.line → l'.table ≡ l.table
-      → Shown pairs capacity state c (with_desk f (after c calls)) l'
+      → Shown line clock c (with_desk f (after c calls)) l'
   desk_shown f l' ef eo eg er ew es en em ev ek ei el et =
       let s = h.shown in
       record {
-        pairs_are = ap pairs ew ∙ s.pairs_are;
-        capacity_is = ap capacity ew ∙ s.capacity_is;
-        state_is = ap state es ∙ s.state_is;
+        pairs_are = ap line.pairs ew ∙ s.pairs_are;
+        capacity_is = ap line.capacity ew ∙ s.capacity_is;
+        state_is = ap clock.state es ∙ s.state_is;
         number_is = en ∙ s.number_is;
         largest_is = em ∙ s.largest_is;
         many = ap vec_len ev ∙ s.many;
@@ -121,7 +121,7 @@ module _ {W S : Type 0} {pairs : W → List Pair} {capacity : W → ℕ} {state 
         returned_is = er;
       }
 
-  pub none_collected : vec_len l.left ≡ 0 → Goes pairs capacity state c calls l Collect (collected_as None) l
+  pub none_collected : vec_len l.left ≡ 0 → Goes line clock c calls l Collect (collected_as None) l
   none_collected e =
       let s = h.shown in
       let d = (after c calls).desk in
@@ -136,7 +136,7 @@ module _ {W S : Type 0} {pairs : W → List Pair} {capacity : W → ℕ} {state 
   pub one_collected : (d : Departed) (says : Slip) → 1 ≤ vec_len l.left → d ≡ get_or (vec_items l.left) 0 d → says.says ≡ slip l.number d → (l' : Link W S)
       → vec_items l'.left ≡ remove (vec_items l.left) 0 → vec_items l'.out ≡ vec_items l.out ++ d.packet.number ∷ [] → l'.filed ≡ l.filed → l'.returned ≡ l.returned
       → l'.waiting ≡ l.waiting → l'.slots ≡ l.slots → l'.number ≡ l.number → l'.largest ≡ l.largest → l'.sessions ≡ l.sessions → l'.clock ≡ l.clock → l'.count ≡ l.count → l'.line ≡ l.line → l'.table ≡ l.table
-      → Goes pairs capacity state c calls l Collect (collected_as (Some says)) l'
+      → Goes line clock c calls l Collect (collected_as (Some says)) l'
   one_collected d says le e is l' ef eo eg er ew es en em ev ek ei el et =
       let s = h.shown in
       let o = one_left (vec_items l.left) d (omega (arith, l.left.ok.0)) e in
@@ -168,9 +168,9 @@ module _ {W S : Type 0} {pairs : W → List Pair} {capacity : W → ℕ} {state 
     says : (r : Result ℕ Refusal) → settlement c link k (after c calls) ≡ r → told (granted w) r ≡ answer c (after c calls) (settling w link k)
     says r v = sym (answer_settling w c link k (after c calls) ∙ ap (told (granted w)) v)
 
-    pub settle_refused : (e : Refusal) (s : Slip) → settlement c link k (after c calls) ≡ Err e → Goes pairs capacity state c calls l (settling w link k) (settled (granted w) (Err (e, s))) l
+    pub settle_refused : (e : Refusal) (s : Slip) → settlement c link k (after c calls) ≡ Err e → Goes line clock c calls l (settling w link k) (settled (granted w) (Err (e, s))) l
     settle_refused e s v = record {
-      led = record { drafted = h.drafted; shown = subst (λ m. Shown pairs capacity state c m l) (does (Err e) v) h.shown };
+      led = record { drafted = h.drafted; shown = subst (λ m. Shown line clock c m l) (does (Err e) v) h.shown };
       told = says (Err e) v;
       kept = λ q. refl;
       law = settled_law;
@@ -182,13 +182,13 @@ module _ {W S : Type 0} {pairs : W → List Pair} {capacity : W → ℕ} {state 
       out_is : vec_items l'.out ≡ without k (after c calls).desk.out
       out_is = eo ∙ at_without k (vec_items l.out) i at ∙ ap (without k) h.shown.out_is
 
-      closed : (v : Settlement) → Counted v l l' → Shown pairs capacity state c (step c (closing v k) (after c calls)) l'
+      closed : (v : Settlement) → Counted v l l' → Shown line clock c (step c (closing v k) (after c calls)) l'
       closed how.File n = desk_shown (file k) l' (ap vec_items ef ∙ h.shown.left_is) out_is (omega (arith, few.0, h.shown.filed_is, n.0)) (n.1 ∙ h.shown.returned_is) ew es en em ev ek ei el et
       closed how.Return n = desk_shown (return k) l' (ap vec_items ef ∙ h.shown.left_is) out_is (n.0 ∙ h.shown.filed_is) (omega (arith, few.1, h.shown.returned_is, n.1)) ew es en em ev ek ei el et
 
-      pub settle_goes : Counted w l l' → Goes pairs capacity state c calls l (settling w link k) (settled (granted w) (Ok k)) l'
+      pub settle_goes : Counted w l l' → Goes line clock c calls l (settling w link k) (settled (granted w) (Ok k)) l'
       settle_goes n = record {
-        led = record { drafted = h.drafted; shown = subst (λ m. Shown pairs capacity state c m l') (does (Ok k) v) (closed w n) };
+        led = record { drafted = h.drafted; shown = subst (λ m. Shown line clock c m l') (does (Ok k) v) (closed w n) };
         told = says (Ok k) v;
         kept = λ q. absurd (not_refused w k q);
         law = settled_law;

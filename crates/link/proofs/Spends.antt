@@ -1,6 +1,8 @@
 -- What a link shows after a stretch. Assumes nothing.
 use Rattle.std.proofs.Common.{◌≡◌, ℕ, ◌+◌, ◌≤◌, min, List, [], ◌∷◌, map, vec_items, vec_len, sym, refl, ap, ◌∙◌, subst, arith, Some, None}
 use Rattle.std.proofs.lemmas.Bool.{cond-true, le-leb}
+use Rattle.waiting_line.specs.declared.line.WaitingLine.{Ghosts as WaitingLine}
+use Rattle.slot_clock.specs.declared.clock.SlotClock.{Ghosts as SlotClock}
 use Rattle.tick_machine.specs.declared.packet.Packet.{Packet}
 use Rattle.tick_machine.specs.Sender.{Line, free}
 use Rattle.tick_machine.specs.Lists.{All, more}
@@ -8,8 +10,7 @@ use Rattle.tick_machine.specs.Round.{Round, round_ticks}
 use Rattle.tick_machine.specs.Sender.{load}
 use Rattle.tick_machine.specs.Machine.{Config, Machine, ticks}
 use Rattle.tick_machine.specs.Law.{On, idle, busy}
-use Rattle.waiting_line.specs.declared.pair.Pair.{Pair}
-use Rattle.slot_clock.specs.State.{SlotState, state_of, round_of}
+use Rattle.slot_clock.specs.State.{state_of, round_of}
 use Rattle.slot_clock.specs.Calls.{run_after, may_run}
 use Rattle.link.specs.declared.link.Link.{Link}
 use Rattle.link.specs.Busy.{at_work}
@@ -48,19 +49,19 @@ stretched c m (Some on_it) span e h b = sym (load_ticks c m (min span on_it.rest
 ran : (ws : List ℕ) (t k : ℕ) (r : Round) → r ≡ round_of (state_of ws t r) → t + k ≤ 17592186044416 → run_after (state_of ws t r) k ≡ state_of ws (t + k) (round_ticks k r)
 ran ws t k r e h = cond-true (may_run (state_of ws t r) k) _ _ (le-leb (t + k) 17592186044416 h) ∙ ap (λ x. state_of ws (t + k) (round_ticks k x)) (sym e)
 
-module _ {W S : Type 0} {pairs : W → List Pair} {capacity : W → ℕ} {state : S → SlotState} {c : Config} (m : Machine) {l : Link W S}
-    (s : Shown pairs capacity state c (loaded m) l) (o : Orderly c m) (k : ℕ) (late : l.clock + k ≤ 17592186044416) where
+module _ {W S : Type 0} {line : WaitingLine W} {clock : SlotClock S} {c : Config} (m : Machine) {l : Link W S}
+    (s : Shown line clock c (loaded m) l) (o : Orderly c m) (k : ℕ) (late : l.clock + k ≤ 17592186044416) where
   late' : m.clock + k ≤ 17592186044416
   late' = omega (arith, s.clock_is)
 
   -- the clocks have moved
-  pub spend_shown : (l' : Link W S) → state l'.slots ≡ run_after (state l.slots) k → l'.clock ≡ l.clock + k
+  pub spend_shown : (l' : Link W S) → clock.state l'.slots ≡ run_after (clock.state l.slots) k → l'.clock ≡ l.clock + k
       → l'.waiting ≡ l.waiting → l'.number ≡ l.number → l'.largest ≡ l.largest → l'.sessions ≡ l.sessions → l'.count ≡ l.count → l'.line ≡ l.line
       → l'.table ≡ l.table → l'.left ≡ l.left → l'.out ≡ l.out → l'.filed ≡ l.filed → l'.returned ≡ l.returned
-      → Shown pairs capacity state c (spent c k (loaded m)) l'
+      → Shown line clock c (spent c k (loaded m)) l'
   spend_shown l' es ek ew en em ev ei el et ef eo eg er = record {
-    pairs_are = ap pairs ew ∙ s.pairs_are;
-    capacity_is = ap capacity ew ∙ s.capacity_is;
+    pairs_are = ap line.pairs ew ∙ s.pairs_are;
+    capacity_is = ap line.capacity ew ∙ s.capacity_is;
     state_is = es ∙ ap (λ x. run_after x k) s.state_is ∙ ran c.weights m.clock k m.round o.rounded late';
     number_is = en ∙ s.number_is;
     largest_is = em ∙ s.largest_is;
@@ -84,8 +85,8 @@ module _ {W S : Type 0} {pairs : W → List Pair} {capacity : W → ℕ} {state 
   }
 
   pub stretch_shown : (span d : ℕ) → k ≡ reach l.line span → 1 ≤ span → 1 ≤ at_work l.line → d ≡ k
-      → (l' : Link W S) → Shown pairs capacity state c (send_bytes k (spent c k (loaded m))) l' → Shown pairs capacity state c (ticks c d m) l'
+      → (l' : Link W S) → Shown line clock c (send_bytes k (spent c k (loaded m))) l' → Shown line clock c (ticks c d m) l'
   stretch_shown span d e h b same l' x =
       let f : (j : ℕ) → j ≡ reach l.line span → ticks c j m ≡ send_bytes j (spent c j (loaded m))
       = λ j q. subst (λ y. ticks c y m ≡ send_bytes y (spent c y (loaded m))) (sym q) (stretched c m l.line span (sym s.line_is) h b) in
-      subst (λ (b : Machine). Shown pairs capacity state c b l') (sym (ap (λ j. ticks c j m) same ∙ f k e)) x
+      subst (λ (b : Machine). Shown line clock c b l') (sym (ap (λ j. ticks c j m) same ∙ f k e)) x

@@ -1,7 +1,7 @@
 -- What a draft shows of a configuration, and what its calls promise. Assumes nothing.
-use Rattle.std.specs.Prelude.{◌≡◌, ℕ, List, [], Ok, Err, vec_items, Result}
-use Rattle.waiting_line.specs.declared.pair.Pair.{Pair}
-use Rattle.slot_clock.specs.State.{SlotState}
+use Rattle.std.specs.Prelude.{◌≡◌, ℕ, [], Ok, Err, vec_items, Result}
+use Rattle.waiting_line.specs.declared.line.WaitingLine.{Ghosts as WaitingLine}
+use Rattle.slot_clock.specs.declared.clock.SlotClock.{Ghosts as SlotClock}
 use Rattle.tick_machine.specs.declared.refusal.Refusal.{Refusal}
 use Rattle.tick_machine.specs.Slots.{round_length}
 use Rattle.tick_machine.specs.Machine.{Config}
@@ -13,12 +13,12 @@ use Rattle.link.specs.declared.draft.Draft.{Draft}
 use Rattle.link.specs.declared.link.Link.{Link}
 use Rattle.link.specs.Promise.{Led}
 
-module _ {W : Type 0} (pairs : W → List Pair) (capacity : W → ℕ) where
+module _ {W : Type 0} (line : WaitingLine W) where
   -- a making and some addings led to this draft of the configuration c
   pub record Drafts (c : Config) (d : Draft W) : Type 0 where
     pub drafted : Drafted c
-    pub pairs_none : pairs d.waiting ≡ []
-    pub capacity_is : capacity d.waiting ≡ c.capacity
+    pub pairs_none : line.pairs d.waiting ≡ []
+    pub capacity_is : line.capacity d.waiting ≡ c.capacity
     pub number_is : d.number ≡ c.link
     pub largest_is : d.largest ≡ c.largest
     pub weights_are : vec_items d.weights ≡ c.weights
@@ -45,7 +45,7 @@ module _ {W : Type 0} (pairs : W → List Pair) (capacity : W → ℕ) where
   Unchanged d (Err e) d' = d' ≡ d
 
 -- an opening, whatever configuration it is a draft of: no call has led to this link yet, and the answer is the number of slots in a round
-pub record Opens {W S : Type 0} (pairs : W → List Pair) (capacity : W → ℕ) (state : S → SlotState) (c : Config) (l : Link W S) (round : ℕ) : Type 0 where
-  pub led : Led pairs capacity state c [] l
+pub record Opens {W S : Type 0} (line : WaitingLine W) (clock : SlotClock S) (c : Config) (l : Link W S) (round : ℕ) : Type 0 where
+  pub led : Led line clock c [] l
   pub told : round ≡ round_length c.weights
   pub law : Lawful c []

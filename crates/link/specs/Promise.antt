@@ -1,8 +1,8 @@
 -- What the public calls of a link promise, for every history that led to it. Assumes nothing.
 use Rattle.std.specs.Prelude.{◌≡◌, ℕ, ◌<◌, Bool, true, false, List, ◌∷◌, pos, ◌+ℤ◌, ◌<ℤ◌, Ok, Err, Option, Result}
 use Rattle.std.specs.Option.{option_map}
-use Rattle.waiting_line.specs.declared.pair.Pair.{Pair}
-use Rattle.slot_clock.specs.State.{SlotState}
+use Rattle.waiting_line.specs.declared.line.WaitingLine.{Ghosts as WaitingLine}
+use Rattle.slot_clock.specs.declared.clock.SlotClock.{Ghosts as SlotClock}
 use Rattle.tick_machine.specs.declared.refusal.Refusal.{Refusal}
 use Rattle.tick_machine.specs.declared.call.Call.{Call}
 use Rattle.tick_machine.specs.declared.call.Figures.{Figures}
@@ -48,11 +48,11 @@ HandedBack s (Err e) = e.1 ≡ s
 abbrev pub longest : Config → List Call → ℕ
 longest c calls = (story c (events c calls)).longest
 
-module _ {W S : Type 0} (pairs : W → List Pair) (capacity : W → ℕ) (state : S → SlotState) where
+module _ {W S : Type 0} (line : WaitingLine W) (clock : SlotClock S) where
   -- these calls, the latest first, led from the opening of a link that was drafted so to this link
   pub record Led (c : Config) (calls : List Call) (l : Link W S) : Type 0 where
     pub drafted : Drafted c
-    pub shown : Shown pairs capacity state c (after c calls) l
+    pub shown : Shown line clock c (after c calls) l
 
   -- a call after those calls: it leads to this link; it is answered as the tick machine answers it; if it is refused the link is as it was;
   -- and the law holds throughout

@@ -1,7 +1,9 @@
 -- What a link shows of the tick machine, given what its waiting line and its slot clock mean. Assumes nothing.
-use Rattle.std.specs.Prelude.{◌≡◌, ℕ, List, [], ◌∷◌, map, length, vec_items, vec_len}
+use Rattle.std.specs.Prelude.{◌≡◌, List, [], ◌∷◌, map, length, vec_items, vec_len}
+use Rattle.waiting_line.specs.declared.line.WaitingLine.{Ghosts as WaitingLine}
+use Rattle.slot_clock.specs.declared.clock.SlotClock.{Ghosts as SlotClock}
 use Rattle.waiting_line.specs.declared.pair.Pair.{Pair}
-use Rattle.slot_clock.specs.State.{SlotState, state_of}
+use Rattle.slot_clock.specs.State.{state_of}
 use Rattle.tick_machine.specs.Lists.{insert}
 use Rattle.tick_machine.specs.declared.packet.Packet.{Packet}
 use Rattle.tick_machine.specs.Machine.{Config, Machine}
@@ -17,12 +19,12 @@ abbrev pub by_number : List Packet → List Packet
 by_number [] = []
 by_number (p ∷ ps) = insert (λ q. q.number) p (by_number ps)
 
-module _ {W S : Type 0} (pairs : W → List Pair) (capacity : W → ℕ) (state : S → SlotState) where
+module _ {W S : Type 0} (line : WaitingLine W) (clock : SlotClock S) where
   -- the link is that machine: its waiting line's set is the waiting packets, its slot clock means the round server
   pub record Shown (c : Config) (m : Machine) (l : Link W S) : Type 0 where
-    pub pairs_are : pairs l.waiting ≡ map pair m.sender.waiting
-    pub capacity_is : capacity l.waiting ≡ c.capacity
-    pub state_is : state l.slots ≡ state_of c.weights m.clock m.round
+    pub pairs_are : line.pairs l.waiting ≡ map pair m.sender.waiting
+    pub capacity_is : line.capacity l.waiting ≡ c.capacity
+    pub state_is : clock.state l.slots ≡ state_of c.weights m.clock m.round
     pub number_is : l.number ≡ c.link
     pub largest_is : l.largest ≡ c.largest
     pub many : vec_len l.sessions ≡ length c.weights

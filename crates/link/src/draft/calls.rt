@@ -40,7 +40,7 @@ impl<W: WaitingLine> Draft<W> {
     pub fn make(heap: Global, making: Making) -> Result<Draft<W>, MakeError>
     where
         W: Drop,
-        ensures { Makes W.WaitingLine.pairs W.WaitingLine.capacity (made_of making.number making.largest making.capacity making.weight) result }
+        ensures { Makes W.WaitingLine (made_of making.number making.largest making.capacity making.weight) result }
     {
         check(making)?;
         let waiting: W = W::make(heap, making.capacity)?;
@@ -66,8 +66,8 @@ impl<W: WaitingLine> Draft<W> {
 
     // One session more: its number.
     pub fn add(&mut self, weight: u64) -> Result<u64, Refusal>
-        ensures added { Added W.WaitingLine.pairs W.WaitingLine.capacity self.old weight result self.new }
-        ensures unchanged { Unchanged W.WaitingLine.pairs W.WaitingLine.capacity self.old result self.new }
+        ensures added { Added W.WaitingLine self.old weight result self.new }
+        ensures unchanged { Unchanged W.WaitingLine self.old result self.new }
     {
         if weight == 0 {
             return Err(Refusal::Weight);
@@ -87,7 +87,7 @@ impl<W: WaitingLine> Draft<W> {
 
     // The open link, and the number of slots in a round. It is never refused, and asks for no memory.
     pub fn open<S: SlotClock>(self) -> (Link<W, S>, u64)
-        ensures { (c : Config) → Drafts W.WaitingLine.pairs W.WaitingLine.capacity c self → Opens W.WaitingLine.pairs W.WaitingLine.capacity S.SlotClock.state c result.0 result.1 }
+        ensures { (c : Config) → Drafts W.WaitingLine c self → Opens W.WaitingLine S.SlotClock c result.0 result.1 }
     {
         let round = self.round;
         match S::make(&self.weights) {

@@ -26,7 +26,7 @@ impl<W: WaitingLine, S: SlotClock> Link<W, S> {
 
     // The checks of an arrival, in their order.
     fn admit(&self, session: u64, size: u64) -> Result<(), Refusal>
-        ensures value { (c : Config) (m : Machine) → Shown W.WaitingLine.pairs W.WaitingLine.capacity S.SlotClock.state c m self.now → result ≡ admission c session size m }
+        ensures value { (c : Config) (m : Machine) → Shown W.WaitingLine S.SlotClock c m self.now → result ≡ admission c session size m }
         ensures room { OnOk result (vec_len self.now.table + on_line self.now.line + vec_len self.now.left + vec_len self.now.out < 1024) }
     {
         if session >= self.sessions.len() as u64 {
@@ -47,7 +47,7 @@ impl<W: WaitingLine, S: SlotClock> Link<W, S> {
 
     // A packet of a session: its number, its stamp and its latest tick.
     pub fn arrive(&mut self, session: u64, size: u64, tag: u64) -> Result<(u64, u64, u64), Refusal>
-        ensures { Keeps W.WaitingLine.pairs W.WaitingLine.capacity S.SlotClock.state self.old (Arrive session size tag) (told arrived result) self.new }
+        ensures { Keeps W.WaitingLine S.SlotClock self.old (Arrive session size tag) (told arrived result) self.new }
     {
         self.admit(session, size)?;
         let number = self.count;

@@ -20,7 +20,7 @@ use waiting_line::line::WaitingLine;
 impl<W: WaitingLine, S: SlotClock> Link<W, S> {
     // A free line takes the waiting packet of the least stamp. (A packet that waits stands in the table, and is not empty.)
     fn load(&mut self)
-        ensures shows { Turns W.WaitingLine.pairs W.WaitingLine.capacity S.SlotClock.state self.old (λ c m. loaded m) self.new }
+        ensures shows { Turns W.WaitingLine S.SlotClock self.old (λ c m. loaded m) self.new }
         ensures clock { self.new.clock ≡ self.old.clock }
     {
         match (self.line, self.waiting.least()) {
@@ -53,7 +53,7 @@ impl<W: WaitingLine, S: SlotClock> Link<W, S> {
 
     // So many bytes of the packet on the line are sent; after its last byte it has left.
     fn send(&mut self, bytes: u64)
-        ensures shows { (c : Config) (m : Machine) → Shown W.WaitingLine.pairs W.WaitingLine.capacity S.SlotClock.state c m self.old → Carries c bytes m → Shown W.WaitingLine.pairs W.WaitingLine.capacity S.SlotClock.state c (send_bytes bytes m) self.new }
+        ensures shows { (c : Config) (m : Machine) → Shown W.WaitingLine S.SlotClock c m self.old → Carries c bytes m → Shown W.WaitingLine S.SlotClock c (send_bytes bytes m) self.new }
         ensures clock { self.new.clock ≡ self.old.clock }
     {
         if let Some(sending) = self.line {
@@ -78,7 +78,7 @@ impl<W: WaitingLine, S: SlotClock> Link<W, S> {
     fn stretch(&mut self, until: u64)
         requires ahead { self.old.clock < until }
         requires last { until ≤ 17592186044416 }
-        ensures shows { Turns W.WaitingLine.pairs W.WaitingLine.capacity S.SlotClock.state self.old (λ c m. ticks c (self.new.clock - self.old.clock) m) self.new }
+        ensures shows { Turns W.WaitingLine S.SlotClock self.old (λ c m. ticks c (self.new.clock - self.old.clock) m) self.new }
         ensures on { (self.old.clock < self.new.clock) × (self.new.clock ≤ until) }
     {
         self.load();
@@ -90,7 +90,7 @@ impl<W: WaitingLine, S: SlotClock> Link<W, S> {
 
     // Does ticks until the clock is there: how many packets left in it.
     pub fn move_to(&mut self, tick: u64) -> Result<u64, Refusal>
-        ensures { Keeps W.WaitingLine.pairs W.WaitingLine.capacity S.SlotClock.state self.old (MoveTo tick) (told (Moved tick) result) self.new }
+        ensures { Keeps W.WaitingLine S.SlotClock self.old (MoveTo tick) (told (Moved tick) result) self.new }
     {
         if tick < self.clock {
             return Err(Refusal::TickPassed);

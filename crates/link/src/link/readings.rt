@@ -54,8 +54,8 @@ impl<W: WaitingLine, S: SlotClock> Link<W, S> {
 
     // The figures of a session.
     pub fn figures(&self, session: u64) -> Result<Figures, Refusal>
-        ensures keeps { Keeps W.WaitingLine.pairs W.WaitingLine.capacity S.SlotClock.state self.now (AskFigures session) (told FiguresAre result) self.now }
-        ensures lead { LeadBounded W.WaitingLine.pairs W.WaitingLine.capacity S.SlotClock.state self.now result }
+        ensures keeps { Keeps W.WaitingLine S.SlotClock self.now (AskFigures session) (told FiguresAre result) self.now }
+        ensures lead { LeadBounded W.WaitingLine S.SlotClock self.now result }
     {
         if session >= self.sessions.len() as u64 {
             return Err(Refusal::UnknownSession);
@@ -76,7 +76,7 @@ impl<W: WaitingLine, S: SlotClock> Link<W, S> {
 
     // The packets of the link, by where they are.
     pub fn totals(&self) -> Totals
-        ensures { Keeps W.WaitingLine.pairs W.WaitingLine.capacity S.SlotClock.state self.now AskTotals (TotalsAre result) self.now }
+        ensures { Keeps W.WaitingLine S.SlotClock self.now AskTotals (TotalsAre result) self.now }
     {
         Totals {
             waiting: self.waiting.size(),

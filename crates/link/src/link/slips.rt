@@ -20,7 +20,7 @@ use waiting_line::line::WaitingLine;
 impl<W: WaitingLine, S: SlotClock> Link<W, S> {
     // Hands out the first packet that has left: its slip, or none.
     pub fn collect(&mut self) -> Option<Slip>
-        ensures { Keeps W.WaitingLine.pairs W.WaitingLine.capacity S.SlotClock.state self.old Collect (collected_as result) self.new }
+        ensures { Keeps W.WaitingLine S.SlotClock self.old Collect (collected_as result) self.new }
     {
         if self.left.is_empty() {
             return None;
@@ -43,7 +43,7 @@ impl<W: WaitingLine, S: SlotClock> Link<W, S> {
     // Where the slip's packet stands among those out, or why it cannot be settled here.
     fn find_out(&self, link: u64, packet: u64) -> Result<usize, Refusal>
         ensures found { IfOk result (λ i. At (λ n. n) packet self.now.out.items i) }
-        ensures value { (c : Config) (m : Machine) → Shown W.WaitingLine.pairs W.WaitingLine.capacity S.SlotClock.state c m self.now → MatchResult result (λ _. settlement c link packet m ≡ Ok packet) (λ e. settlement c link packet m ≡ Err e) }
+        ensures value { (c : Config) (m : Machine) → Shown W.WaitingLine S.SlotClock c m self.now → MatchResult result (λ _. settlement c link packet m ≡ Ok packet) (λ e. settlement c link packet m ≡ Err e) }
     {
         if link != self.number {
             return Err(Refusal::OtherLink);
@@ -56,7 +56,7 @@ impl<W: WaitingLine, S: SlotClock> Link<W, S> {
 
     // The packet of the slip is settled so: its number. A refusal hands the slip back.
     pub fn settle(&mut self, slip: Slip, how: Settlement) -> Result<u64, (Refusal, Slip)>
-        ensures keeps { Keeps W.WaitingLine.pairs W.WaitingLine.capacity S.SlotClock.state self.old (settling how slip.says.link slip.says.packet) (settled (granted how) result) self.new }
+        ensures keeps { Keeps W.WaitingLine S.SlotClock self.old (settling how slip.says.link slip.says.packet) (settled (granted how) result) self.new }
         ensures back { HandedBack slip result }
     {
         match self.find_out(slip.says.link, slip.says.packet) {
@@ -75,7 +75,7 @@ impl<W: WaitingLine, S: SlotClock> Link<W, S> {
 
     // The packet of the slip is filed.
     pub fn file(&mut self, slip: Slip) -> Result<u64, (Refusal, Slip)>
-        ensures keeps { Keeps W.WaitingLine.pairs W.WaitingLine.capacity S.SlotClock.state self.old (File slip.says.link slip.says.packet) (settled Filed result) self.new }
+        ensures keeps { Keeps W.WaitingLine S.SlotClock self.old (File slip.says.link slip.says.packet) (settled Filed result) self.new }
         ensures back { HandedBack slip result }
     {
         self.settle(slip, Settlement::File)
@@ -83,7 +83,7 @@ impl<W: WaitingLine, S: SlotClock> Link<W, S> {
 
     // The packet of the slip is returned.
     pub fn give_back(&mut self, slip: Slip) -> Result<u64, (Refusal, Slip)>
-        ensures keeps { Keeps W.WaitingLine.pairs W.WaitingLine.capacity S.SlotClock.state self.old (Return slip.says.link slip.says.packet) (settled Returned result) self.new }
+        ensures keeps { Keeps W.WaitingLine S.SlotClock self.old (Return slip.says.link slip.says.packet) (settled Returned result) self.new }
         ensures back { HandedBack slip result }
     {
         self.settle(slip, Settlement::Return)

@@ -17,7 +17,7 @@ loop-self-init g c =
     let z : 0 ≡ c.args.self.now.clock - c.args.self.now.clock = omega arith in (
       omega arith,
       omega arith,
-      λ f calls h. subst (λ (k : ℕ). Shown g.W.WaitingLine.pairs g.W.WaitingLine.capacity g.S.SlotClock.state f (ticks f k (after f calls)) c.args.self.now) z h.shown,
+      λ f calls h. subst (λ (k : ℕ). Shown g.W.WaitingLine g.S.SlotClock f (ticks f k (after f calls)) c.args.self.now) z h.shown,
     )
 
 pub loop-self-preserved : goal.loop-self-preserved

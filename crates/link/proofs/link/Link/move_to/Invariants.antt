@@ -9,8 +9,8 @@ use Rattle.link.proofs.link.Link.move_to.Given as goal
 abbrev pub invariant-loop-self : goal.invariant-loop-self
 invariant-loop-self g l =
     (l.initial.self.clock ≤ l.self.clock) × (l.self.clock ≤ l.tick)
-    × ((c : Config) (calls : List Call) → Led g.W.WaitingLine.pairs g.W.WaitingLine.capacity g.S.SlotClock.state c calls l.initial.self
-    → Shown g.W.WaitingLine.pairs g.W.WaitingLine.capacity g.S.SlotClock.state c (ticks c (l.self.clock - l.initial.self.clock) (after c calls)) l.self)
+    × ((c : Config) (calls : List Call) → Led g.W.WaitingLine g.S.SlotClock c calls l.initial.self
+    → Shown g.W.WaitingLine g.S.SlotClock c (ticks c (l.self.clock - l.initial.self.clock) (after c calls)) l.self)
 
 abbrev pub decreases-loop-self : goal.decreases-loop-self
 decreases-loop-self g l = l.tick - l.self.clock

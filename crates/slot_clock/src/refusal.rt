@@ -7,28 +7,21 @@ use tick_machine::refusal::Refusal;
 #[derive(Clone, Copy, PartialEq, Eq, Debug)]
 pub enum ClockRefusal {
     // making
-    Sessions,
-    Weights,
+    Sessions = 81,
+    Weights = 82,
     // adding, and reading what is owed
-    UnknownSession,
-    Size,
-    TooMuchOwed,
+    UnknownSession = 83,
+    Size = 84,
+    TooMuchOwed = 85,
     // running
-    TicksPastEnd,
+    TicksPastEnd = 86,
 }
 
 impl ClockRefusal {
     pub fn number(self) -> u64
         ensures { result ≡ clock_number self }
     {
-        match self {
-            ClockRefusal::Sessions => 81,
-            ClockRefusal::Weights => 82,
-            ClockRefusal::UnknownSession => 83,
-            ClockRefusal::Size => 84,
-            ClockRefusal::TooMuchOwed => 85,
-            ClockRefusal::TicksPastEnd => 86,
-        }
+        self as u64
     }
 }
 

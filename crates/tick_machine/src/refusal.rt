@@ -6,18 +6,15 @@ ghost use Rattle.tick_machine.specs.declared.refusal.Refusal.TheVariants.{NoRoom
 // A waiting line refuses a pair.
 #[derive(Clone, Copy, PartialEq, Eq, Debug)]
 pub enum LineRefusal {
-    Full,
-    Twice,
+    Full = 71,
+    Twice = 72,
 }
 
 impl LineRefusal {
     pub fn number(self) -> u64
         ensures { result ≡ line_number self }
     {
-        match self {
-            LineRefusal::Full => 71,
-            LineRefusal::Twice => 72,
-        }
+        self as u64
     }
 }
 
@@ -56,7 +53,7 @@ impl From<LineRefusal> for Refusal {
 }
 
 impl Refusal {
-    // The link's own number.
+    // The link's own number. (A match, since an enum whose case carries a value has no numbers of its own.)
     pub fn number(self) -> u64
         ensures { result ≡ outer self }
     {

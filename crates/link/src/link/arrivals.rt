@@ -16,6 +16,13 @@ use tick_machine::refusal::Refusal;
 use waiting_line::line::WaitingLine;
 use waiting_line::pair::Pair;
 
+// What is told of a packet that is accepted: its number, its stamp and its latest tick.
+fn told_of(packet: Packet) -> (u64, u64, u64)
+    ensures { result ≡ (packet.number, packet.stamp, packet.latest) }
+{
+    (packet.number, packet.stamp, packet.latest)
+}
+
 impl<W: WaitingLine, S: SlotClock> Link<W, S> {
     // How many packets are unsettled: waiting, sending, left or out.
     fn unsettled(&self) -> usize
@@ -61,16 +68,17 @@ impl<W: WaitingLine, S: SlotClock> Link<W, S> {
             .clock
             .saturating_add(stamp.saturating_sub(cursor))
             .saturating_add(self.largest);
-        self.table.push_reserved(Packet {
+        let packet = Packet {
             number,
             session,
             size,
             tag,
             stamp,
             latest,
-        });
+        };
+        self.table.push_reserved(packet);
         self.count = number.saturating_add(1);
         note_accepted(&mut self.sessions, session, size);
-        Ok((number, stamp, latest))
+        Ok(told_of(packet))
     }
 }

@@ -1,5 +1,5 @@
 // How time passes at a link: stretch by stretch, and never tick by tick.
-ghost use Rattle.std.specs.Prelude.{◌≡◌, ℕ, ◌+◌, ◌-◌, ◌<◌, ◌≤◌};
+ghost use Rattle.std.specs.Prelude.{◌≡◌, ℕ, ◌+◌, ◌-◌, ◌<◌, ◌≤◌, vec_len};
 ghost use Rattle.tick_machine.specs.Machine.{Config, Machine, ticks};
 ghost use Rattle.link.specs.Stretch.{loaded, reach as reach_of, send_bytes, Carries};
 ghost use Rattle.tick_machine.specs.Life.{told};
@@ -88,6 +88,13 @@ impl<W: WaitingLine, S: SlotClock> Link<W, S> {
         self.send(ticks);
     }
 
+    // How many packets have left since there were so many of them.
+    fn left_since(&self, before: usize) -> u64
+        ensures { result ≡ vec_len self.now.left - before }
+    {
+        self.left.len().saturating_sub(before) as u64
+    }
+
     // Does ticks until the clock is there: how many packets left in it.
     pub fn move_to(&mut self, tick: u64) -> Result<u64, Refusal>
         ensures { Keeps W.WaitingLine S.SlotClock self.old (MoveTo tick) (told (Moved tick) result) self.new }
@@ -102,6 +109,6 @@ impl<W: WaitingLine, S: SlotClock> Link<W, S> {
         while self.clock < tick {
             self.stretch(tick);
         }
-        Ok(self.left.len().saturating_sub(before) as u64)
+        Ok(self.left_since(before))
     }
 }

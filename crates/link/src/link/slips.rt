@@ -1,5 +1,5 @@
 // Slips go out and come back.
-ghost use Rattle.std.specs.Prelude.{◌≡◌, ℕ, ◌<◌, IfOk, Ok, Err, MatchResult};
+ghost use Rattle.std.specs.Prelude.{◌≡◌, ℕ, ◌<◌, IfOk, Ok, Err, MatchResult, nat_lt, vec_len};
 ghost use Rattle.tick_machine.specs.Machine.{Config, Machine};
 ghost use Rattle.tick_machine.specs.Life.{settlement, settling, granted};
 ghost use Rattle.tick_machine.specs.declared.call.Call.TheVariants.{Collect, File, Return};
@@ -18,11 +18,18 @@ use tick_machine::refusal::Refusal;
 use waiting_line::line::WaitingLine;
 
 impl<W: WaitingLine, S: SlotClock> Link<W, S> {
+    // Whether a packet has left that is not handed out yet.
+    fn has_left(&self) -> bool
+        ensures { result ≡ nat_lt 0 (vec_len self.now.left) }
+    {
+        !self.left.is_empty()
+    }
+
     // Hands out the first packet that has left: its slip, or none.
     pub fn collect(&mut self) -> Option<Slip>
         ensures { Keeps W.WaitingLine S.SlotClock self.old Collect (collected_as result) self.new }
     {
-        if self.left.is_empty() {
+        if !self.has_left() {
             return None;
         }
         let departed = self.left.remove(0);

@@ -30,6 +30,6 @@ returns g c f calls h =
     let is = c.in_ok-stamp.ensures.answer in
     let note = c.note_accepted.ensures in
     let late = c.saturating_add-latest.ensures ∙ ap (λ x. min (x + l.largest) 18446744073709551615) (c.saturating_add.ensures ∙ ap (λ x. min (l.clock + x) 18446744073709551615) c.saturating_sub.ensures) in
-    accepted_goes h i n tag v s is c.cursor-cursor.result c.saturating_add-latest.result c.cursor-cursor.ensures late _
+    rw c.told_of.ensures (accepted_goes h i n tag v s is c.cursor-cursor.result c.saturating_add-latest.result c.cursor-cursor.ensures late _
     c.in_ok-stamp.ensures.after c.put.ensures.after c.put.ensures.capacity c.push_reserved.ensures.items c.saturating_add-self.ensures
-    (note.accepted (arrive_known h i n tag v) (accepted_fits h i n tag v s is)) note.sent note.many refl refl refl refl refl refl refl refl
+    (note.accepted (arrive_known h i n tag v) (accepted_fits h i n tag v s is)) note.sent note.many refl refl refl refl refl refl refl refl)

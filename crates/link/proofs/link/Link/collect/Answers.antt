@@ -2,8 +2,8 @@ use Rattle.std.proofs.Common.{refl, rules}
 use Rattle.link.proofs.Slips.{none_collected, one_collected}
 use Rattle.link.proofs.link.Link.collect.Goals as goal
 
-pub returns-then-is_empty : goal.returns-then-is_empty
-returns-then-is_empty g c f calls h = none_collected h (search rules)
+pub returns-then-not-has_left : goal.returns-then-not-has_left
+returns-then-not-has_left g c f calls h = none_collected h (search rules)
 
 pub returns : goal.returns
 returns g c f calls h =

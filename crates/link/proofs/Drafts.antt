@@ -1,7 +1,5 @@
 -- A draft keeps its limits, and shows the configuration that its calls lead to. Assumes nothing.
-use Rattle.std.proofs.Common.{◌≡◌, ℕ, ◌+◌, ◌<◌, ◌≤◌, true, ltb, leb, List, [], ◌∷◌, ◌++◌, length, replicate, Ok, vec_items, vec_len, sym, refl, ap, ◌∙◌, arith}
-use lib.ListN.{length-replicate}
-use Rattle.std.proofs.lemmas.List.{replicate_more}
+use Rattle.std.proofs.Common.{◌≡◌, ℕ, ◌+◌, ◌<◌, ◌≤◌, true, ltb, leb, List, [], ◌∷◌, ◌++◌, length, Ok, vec_items, vec_len, sym, refl, ap, ◌∙◌, arith}
 use Rattle.std.proofs.lemmas.Bool.{lt-ltb, le-leb, and_from, and_parts, cond-true}
 use Rattle.waiting_line.specs.declared.line.WaitingLine.{Ghosts as WaitingLine}
 use Rattle.tick_machine.specs.Slots.{round_length}
@@ -10,7 +8,6 @@ use Rattle.tick_machine.specs.Life.{adding, with_session, added, drafted}
 use Rattle.tick_machine.specs.Law.{Drafted}
 use Rattle.tick_machine.proofs.Places.{total_push}
 use Rattle.slot_clock.specs.Calls.{no_zero}
-use Rattle.link.specs.declared.session.Session.{Session}
 use Rattle.link.specs.declared.draft.Draft.{Draft}
 use Rattle.link.specs.Drafting.{Drafts, Adds}
 
@@ -20,12 +17,6 @@ no_zero_push (x ∷ ws) w h e = let p = and_parts (ltb 0 x) (no_zero ws) e in an
 
 pub round_push : (ws : List ℕ) (w : ℕ) → round_length (ws ++ w ∷ []) ≡ round_length ws + w
 round_push ws w = total_push (λ x. x) ws w
-
-pub fresh_push : (xs ys : List Session) (x : Session) (n k : ℕ) → xs ≡ replicate n x → ys ≡ xs ++ x ∷ [] → k ≡ n + 1 → ys ≡ replicate k x
-fresh_push xs ys x n k e f g = f ∙ ap (λ zs. zs ++ x ∷ []) e ∙ replicate_more n x ∙ ap (λ j. replicate j x) (sym g)
-
-pub fresh_length : (n : ℕ) (xs : List Session) (x : Session) → xs ≡ replicate n x → length xs ≡ n
-fresh_length n xs x e = ap length e ∙ length-replicate n x
 
 -- one adding more
 pub drafted_push : (c : Config) (ws : List ℕ) (w : ℕ) → drafted c (ws ++ w ∷ []) ≡ added (drafted c ws) w

@@ -33,7 +33,7 @@ module _ {W S : Type 0} {line : WaitingLine W} {clock : SlotClock S} {c : Config
   opens items e slots made l o =
       let ws = c.weights in
       let many : vec_len d.weights ≡ length ws = d.weights.ok.0 ∙ ap length h.weights_are in
-      let zeros : vec_items d.sessions ≡ replicate (length ws) (record { accepted = 0; sent = 0 }) = d.fresh ∙ ap (λ n. replicate n (record { accepted = 0; sent = 0 })) many in
+      let zeros : vec_items l.sessions ≡ replicate (length ws) (record { accepted = 0; sent = 0 }) = o.sessions_are ∙ ap (λ n. replicate n (record { accepted = 0; sent = 0 })) many in
       let is : Ok (clock.state slots) ≡ Ok (state_of ws 0 (fresh_round ws))
       = made ∙ ap made_answer (e ∙ h.weights_are)
       ∙ makes ws (omega (arith, many, d.some)) (omega (arith, many, d.few)) (ap no_zero (sym h.weights_are) ∙ d.weighty) (omega (arith, d.sum ∙ ap round_length h.weights_are, d.light)) in
@@ -47,9 +47,9 @@ module _ {W S : Type 0} {line : WaitingLine W} {clock : SlotClock S} {c : Config
             state_is = ap clock.state o.slots_are ∙ st;
             number_is = o.number_is ∙ h.number_is;
             largest_is = o.largest_is ∙ h.largest_is;
-            many = ap vec_len o.sessions_are ∙ d.sessions.ok.0 ∙ ap length zeros ∙ length-replicate (length ws) (record { accepted = 0; sent = 0 });
-            accepted_are = ap (λ v. map (λ x. x.accepted) (vec_items v)) o.sessions_are ∙ ap (map (λ x. x.accepted)) zeros ∙ map_replicate (λ x. x.accepted) (length ws) _;
-            sent_are = ap (λ v. map (λ x. x.sent) (vec_items v)) o.sessions_are ∙ ap (map (λ x. x.sent)) zeros ∙ map_replicate (λ x. x.sent) (length ws) _;
+            many = l.sessions.ok.0 ∙ ap length zeros ∙ length-replicate (length ws) (record { accepted = 0; sent = 0 });
+            accepted_are = ap (map (λ x. x.accepted)) zeros ∙ map_replicate (λ x. x.accepted) (length ws) _;
+            sent_are = ap (map (λ x. x.sent)) zeros ∙ map_replicate (λ x. x.sent) (length ws) _;
             clock_is = o.clock_is;
             count_is = o.count_is;
             line_is = o.line_is;

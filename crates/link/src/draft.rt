@@ -1,5 +1,5 @@
 // A link before it is opened: it takes sessions, and has all the memory that the open link will need.
-ghost use Rattle.std.specs.Prelude.{◌≡◌, ℕ, ◌≤◌, true, replicate, vec_len, vec_capacity};
+ghost use Rattle.std.specs.Prelude.{◌≡◌, ℕ, ◌≤◌, true, vec_len, vec_capacity};
 ghost use Rattle.slot_clock.specs.Calls.{no_zero};
 ghost use Rattle.tick_machine.specs.Slots.{round_length};
 
@@ -14,6 +14,7 @@ pub struct Draft<W> {
     // the sum of the weights
     pub(crate) round: u64,
     pub(crate) weights: Vec<u64>,
+    // memory for the records that the open link begins with
     pub(crate) sessions: Vec<Session>,
     pub(crate) table: Vec<Packet>,
     pub(crate) left: Vec<Departed>,
@@ -28,7 +29,7 @@ pub struct Draft<W> {
     ghost sum: { round ≡ round_length weights.items },
     ghost light: { round ≤ 4096 },
     ghost weighty: { no_zero weights.items ≡ true },
-    ghost fresh: { sessions.items ≡ replicate (vec_len weights) (record { accepted = 0; sent = 0 }) },
+    ghost unrecorded: { vec_len sessions ≡ 0 },
     ghost untabled: { vec_len table ≡ 0 },
     ghost unlisted: { vec_len left ≡ 0 },
     ghost unnoted: { vec_len out ≡ 0 },

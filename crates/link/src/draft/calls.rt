@@ -9,7 +9,6 @@ use super::Draft;
 use crate::error::MakeError;
 use crate::limits::{HEAVIEST, SESSIONS, UNSETTLED};
 use crate::link::Link;
-use crate::session::Session;
 use slot_clock::clock::SlotClock;
 use std::alloc::Global;
 use tick_machine::call::Making;
@@ -45,12 +44,11 @@ impl<W: WaitingLine> Draft<W> {
         check(making)?;
         let waiting: W = W::make(heap, making.capacity)?;
         let mut weights = Vec::with_capacity(heap, SESSIONS)?;
-        let mut sessions = Vec::with_capacity(heap, SESSIONS)?;
+        let sessions = Vec::with_capacity(heap, SESSIONS)?;
         let table = Vec::with_capacity(heap, UNSETTLED)?;
         let left = Vec::with_capacity(heap, UNSETTLED)?;
         let out = Vec::with_capacity(heap, UNSETTLED)?;
         weights.push_reserved(making.weight);
-        sessions.push_reserved(Session::default());
         Ok(Draft {
             waiting,
             number: making.number,
@@ -80,7 +78,6 @@ impl<W: WaitingLine> Draft<W> {
         }
         let session = self.weights.len() as u64;
         self.weights.push_reserved(weight);
-        self.sessions.push_reserved(Session::default());
         self.round += weight;
         Ok(session)
     }

@@ -3,6 +3,7 @@ ghost use Rattle.link.specs.Opened.{Opened};
 
 use super::Link;
 use crate::draft::Draft;
+use crate::session::Session;
 use slot_clock::clock::SlotClock;
 use waiting_line::line::WaitingLine;
 
@@ -16,12 +17,13 @@ impl<W: WaitingLine, S: SlotClock> Link<W, S> {
             number,
             largest,
             round: _,
-            weights: _,
-            sessions,
+            weights,
+            mut sessions,
             table,
             left,
             out,
         } = draft;
+        sessions.resize(weights.len(), Session::default()).unwrap();
         Link {
             waiting,
             slots,

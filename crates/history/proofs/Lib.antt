@@ -1,3 +1,2 @@
 pub mod Outs
 pub mod Goings
-pub mod Beginnings

@@ -4,8 +4,8 @@
 
 pub mod clerk;
 mod ending;
-mod hand;
 pub mod one_link;
 pub mod run;
 mod serving;
 mod starting;
+mod untimely;

@@ -2,8 +2,6 @@
 ghost use Rattle.history.specs.Standing.{Stands};
 
 use crate::clerk::LinkClerk;
-use crate::ending::close_link;
-use crate::serving::serve;
 use crate::starting::{begin, draw_up};
 use history_lines::clerk::Clerk;
 use history_reply::replies::Reply;
@@ -13,43 +11,37 @@ use std::alloc::{AllocError, Global};
 use waiting_line::line::WaitingLine;
 
 impl<W: WaitingLine + Drop, S: SlotClock + Drop> Clerk for LinkClerk<W, S> {
-    ghost stands = { Stands W.WaitingLine.pairs W.WaitingLine.capacity S.SlotClock.state };
+    ghost stands = { Stands W.WaitingLine S.SlotClock };
 
     fn phase(&self) -> Phase {
         match self {
             LinkClerk::Before => Phase::Before,
             LinkClerk::Drafting(_) => Phase::Draft,
-            LinkClerk::Serving(_, hand) => match hand {
+            LinkClerk::Serving(open) => match open.hand {
                 None => Phase::Open,
                 Some(_) => Phase::Holding,
             },
         }
     }
 
-    fn obey(
-        self,
-        heap: Global,
-        n: u64,
-        command: Command,
-    ) -> (LinkClerk<W, S>, Result<Reply, AllocError>) {
+    fn obey(self, heap: Global, n: u64, command: Command) -> (Self, Result<Reply, AllocError>) {
         match self {
             LinkClerk::Before => begin(heap, n, command),
             LinkClerk::Drafting(draft) => {
                 let (next, reply) = draw_up(draft, n, command);
                 (next, Ok(reply))
             }
-            LinkClerk::Serving(link, hand) => {
-                let (next, reply) = serve(link, hand, n, command);
-                (next, Ok(reply))
+            LinkClerk::Serving(open) => {
+                let (next, reply) = open.serve(n, command);
+                (LinkClerk::Serving(next), Ok(reply))
             }
         }
     }
 
     fn close(self) -> Option<Reply> {
         match self {
-            LinkClerk::Before => None,
-            LinkClerk::Drafting(_) => None,
-            LinkClerk::Serving(link, hand) => close_link(link, hand),
+            LinkClerk::Before | LinkClerk::Drafting(_) => None,
+            LinkClerk::Serving(open) => open.close(),
         }
     }
 }

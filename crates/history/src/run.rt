@@ -5,14 +5,8 @@ ghost use Rattle.history_reply.specs.Transcript.{printed_lines, transcript, Fron
 use crate::clerk::LinkClerk;
 use history_lines::lines::print_history;
 use slot_clock::clock::SlotClock;
-use std::alloc::Global;
+use std::alloc::{AllocError, Global};
 use waiting_line::line::WaitingLine;
-
-// Why a history is not printed to its end.
-#[derive(Clone, Copy, PartialEq, Eq, Debug)]
-pub enum HistoryError {
-    NoMemory,
-}
 
 // Prints the transcript of the input after what is in `out`. Where there is no memory for it, some first lines of it stand there, all of them
 // whole.
@@ -20,12 +14,8 @@ pub fn run<W: WaitingLine + Drop, S: SlotClock + Drop>(
     heap: Global,
     input: &[u8],
     out: &mut String,
-) -> Result<(), HistoryError>
+) -> Result<(), AllocError>
     ensures { MatchResult result (λ _. string_bytes out.new ≡ string_bytes out.old ++ transcript input.now) (λ _. Front (string_bytes out.old) (printed_lines input.now) (string_bytes out.new)) }
 {
-    let clerk: LinkClerk<W, S> = LinkClerk::Before;
-    match print_history(heap, clerk, input, out) {
-        Ok(()) => Ok(()),
-        Err(_) => Err(HistoryError::NoMemory),
-    }
+    print_history(heap, LinkClerk::<W, S>::Before, input, out)
 }

@@ -1,139 +1,98 @@
 // Commands at an open link.
+ghost use Rattle.std.specs.Prelude.{◌≡◌};
+ghost use Rattle.tick_machine.specs.Life.{granted};
 ghost use Rattle.history_reply.specs.Stages.{Stage, obey};
 ghost use Rattle.history_text.specs.declared.commands.Command.TheVariants as command;
-ghost use Rattle.history.specs.Standing.{AtLink, Went};
+ghost use Rattle.history.specs.Standing.{AtLink, Went, settlement_of};
 
-use crate::clerk::LinkClerk;
-use crate::hand::copy_of;
+use crate::clerk::OpenLink;
+use crate::untimely::untimely;
 use history_reply::replies::Reply;
 use history_text::commands::Command;
-use history_text::faults::Cause;
 use link::answers::{of_arrival, of_figures, of_move};
-use link::link::Link;
-use link::slip::Slip;
 use slot_clock::clock::SlotClock;
-use tick_machine::call::Answer;
+use tick_machine::call::{Answer, Settlement};
 use waiting_line::line::WaitingLine;
 
-// Hands out a slip, if none is in hand.
-fn take<W: WaitingLine, S: SlotClock>(
-    link: Link<W, S>,
-    hand: Option<Slip>,
-    n: u64,
-) -> (LinkClerk<W, S>, Reply)
-    ensures { (s : Stage) → AtLink W.WaitingLine.pairs W.WaitingLine.capacity S.SlotClock.state s link hand → Went W.WaitingLine.pairs W.WaitingLine.capacity S.SlotClock.state (obey n s command.Take) result.0 result.1 }
+fn granted(how: Settlement, number: u64) -> Answer
+    ensures { result ≡ granted how number }
 {
-    match hand {
-        Some(slip) => (
-            LinkClerk::Serving(link, Some(slip)),
-            Reply::Fault(Cause::Untimely, n, 1),
-        ),
-        None => {
-            let mut link = link;
-            let taken = link.collect();
-            let answer = Answer::Collected(copy_of(&taken));
-            (LinkClerk::Serving(link, taken), Reply::Answer(answer))
-        }
+    match how {
+        Settlement::File => Answer::Filed(number),
+        Settlement::Return => Answer::Returned(number),
     }
 }
 
-// Files the packet of the slip in hand.
-fn file<W: WaitingLine, S: SlotClock>(
-    link: Link<W, S>,
-    hand: Option<Slip>,
-    n: u64,
-) -> (LinkClerk<W, S>, Reply)
-    ensures { (s : Stage) → AtLink W.WaitingLine.pairs W.WaitingLine.capacity S.SlotClock.state s link hand → Went W.WaitingLine.pairs W.WaitingLine.capacity S.SlotClock.state (obey n s command.File) result.0 result.1 }
-{
-    match hand {
-        None => (
-            LinkClerk::Serving(link, None),
-            Reply::Fault(Cause::Untimely, n, 1),
-        ),
-        Some(slip) => {
-            let mut link = link;
-            match link.file(slip) {
-                Ok(number) => (
-                    LinkClerk::Serving(link, None),
-                    Reply::Answer(Answer::Filed(number)),
-                ),
-                Err(refused) => {
-                    let (e, kept) = refused;
-                    (
-                        LinkClerk::Serving(link, Some(kept)),
-                        Reply::Answer(Answer::Refused(e)),
-                    )
-                }
+impl<W: WaitingLine, S: SlotClock> OpenLink<W, S> {
+    // Hands out a slip, if none is in hand.
+    fn take(self, n: u64) -> (Self, Reply)
+        ensures { (s : Stage) → AtLink W.WaitingLine S.SlotClock s self → Went (AtLink W.WaitingLine S.SlotClock) (obey n s command.Take) result.0 result.1 }
+    {
+        let OpenLink { mut link, hand } = self;
+        match hand {
+            Some(slip) => (
+                OpenLink {
+                    link,
+                    hand: Some(slip),
+                },
+                untimely(n),
+            ),
+            None => {
+                let hand = link.collect();
+                let answer = Answer::Collected(hand.as_ref().map(|slip| slip.copy()));
+                (OpenLink { link, hand }, Reply::Answer(answer))
             }
         }
     }
-}
 
-// Returns the packet of the slip in hand.
-fn give_back<W: WaitingLine, S: SlotClock>(
-    link: Link<W, S>,
-    hand: Option<Slip>,
-    n: u64,
-) -> (LinkClerk<W, S>, Reply)
-    ensures { (s : Stage) → AtLink W.WaitingLine.pairs W.WaitingLine.capacity S.SlotClock.state s link hand → Went W.WaitingLine.pairs W.WaitingLine.capacity S.SlotClock.state (obey n s command.Return) result.0 result.1 }
-{
-    match hand {
-        None => (
-            LinkClerk::Serving(link, None),
-            Reply::Fault(Cause::Untimely, n, 1),
-        ),
-        Some(slip) => {
-            let mut link = link;
-            match link.give_back(slip) {
+    // Settles the packet of the slip in hand.
+    fn settle(self, how: Settlement, n: u64) -> (Self, Reply)
+        ensures { (s : Stage) → AtLink W.WaitingLine S.SlotClock s self → Went (AtLink W.WaitingLine S.SlotClock) (obey n s (settlement_of how)) result.0 result.1 }
+    {
+        let OpenLink { mut link, hand } = self;
+        match hand {
+            None => (OpenLink { link, hand: None }, untimely(n)),
+            Some(slip) => match link.settle(slip, how) {
                 Ok(number) => (
-                    LinkClerk::Serving(link, None),
-                    Reply::Answer(Answer::Returned(number)),
+                    OpenLink { link, hand: None },
+                    Reply::Answer(granted(how, number)),
                 ),
-                Err(refused) => {
-                    let (e, kept) = refused;
-                    (
-                        LinkClerk::Serving(link, Some(kept)),
-                        Reply::Answer(Answer::Refused(e)),
-                    )
-                }
-            }
+                Err((e, kept)) => (
+                    OpenLink {
+                        link,
+                        hand: Some(kept),
+                    },
+                    Reply::Answer(Answer::Refused(e)),
+                ),
+            },
         }
     }
-}
 
-// A command at an open link.
-pub fn serve<W: WaitingLine, S: SlotClock>(
-    link: Link<W, S>,
-    hand: Option<Slip>,
-    n: u64,
-    command: Command,
-) -> (LinkClerk<W, S>, Reply)
-    ensures { (s : Stage) → AtLink W.WaitingLine.pairs W.WaitingLine.capacity S.SlotClock.state s link hand → Went W.WaitingLine.pairs W.WaitingLine.capacity S.SlotClock.state (obey n s command) result.0 result.1 }
-{
-    let mut link = link;
-    match command {
-        Command::Arrive(session, size, tag) => {
-            let answer = of_arrival(link.arrive(session, size, tag));
-            (LinkClerk::Serving(link, hand), Reply::Answer(answer))
+    // A command at an open link.
+    pub fn serve(mut self, n: u64, command: Command) -> (Self, Reply)
+        ensures { (s : Stage) → AtLink W.WaitingLine S.SlotClock s self → Went (AtLink W.WaitingLine S.SlotClock) (obey n s command) result.0 result.1 }
+    {
+        match command {
+            Command::Arrive(session, size, tag) => {
+                let answer = of_arrival(self.link.arrive(session, size, tag));
+                (self, Reply::Answer(answer))
+            }
+            Command::MoveTo(tick) => {
+                let answer = of_move(tick, self.link.move_to(tick));
+                (self, Reply::Answer(answer))
+            }
+            Command::AskFigures(session) => {
+                let answer = of_figures(self.link.figures(session));
+                (self, Reply::Answer(answer))
+            }
+            Command::AskTotals => {
+                let answer = Answer::TotalsAre(self.link.totals());
+                (self, Reply::Answer(answer))
+            }
+            Command::Take => self.take(n),
+            Command::File => self.settle(Settlement::File, n),
+            Command::Return => self.settle(Settlement::Return, n),
+            _ => (self, untimely(n)),
         }
-        Command::MoveTo(tick) => {
-            let answer = of_move(tick, link.move_to(tick));
-            (LinkClerk::Serving(link, hand), Reply::Answer(answer))
-        }
-        Command::AskFigures(session) => {
-            let answer = of_figures(link.figures(session));
-            (LinkClerk::Serving(link, hand), Reply::Answer(answer))
-        }
-        Command::AskTotals => {
-            let answer = Answer::TotalsAre(link.totals());
-            (LinkClerk::Serving(link, hand), Reply::Answer(answer))
-        }
-        Command::Take => take(link, hand, n),
-        Command::File => file(link, hand, n),
-        Command::Return => give_back(link, hand, n),
-        Command::Make(_, _, _, _) | Command::Add(_) | Command::Open => (
-            LinkClerk::Serving(link, hand),
-            Reply::Fault(Cause::Untimely, n, 1),
-        ),
     }
 }

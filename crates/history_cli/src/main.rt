@@ -7,8 +7,7 @@ mod parts;
 mod printed;
 
 use anyhow::anyhow;
-use history::run::HistoryError;
-use parts::{Parts, parts_named};
+use parts::Parts;
 use printed::run_with;
 use std::env;
 use std::io::Read;
@@ -17,16 +16,9 @@ use std::io::Read;
 const LOOKED_AT: u64 = 65537;
 
 fn chosen(rt: &HostRuntime) -> anyhow::Result<Parts> {
-    let mut words = env::args(rt)?;
-    let _ = words.next();
-    match words.next() {
-        None => Ok(Parts::HeapJump),
-        Some(word) => match parts_named(word.as_str()) {
-            Some(parts) => Ok(parts),
-            None => Err(anyhow!(
-                "no such parts: heap-step, heap-jump, sorted-step and sorted-jump can be chosen"
-            )),
-        },
+    match env::args(rt)?.nth(1) {
+        None => Ok(Parts::default()),
+        Some(word) => Ok(word.as_str().parse()?),
     }
 }
 
@@ -37,10 +29,7 @@ fn answer(rt: &HostRuntime) -> anyhow::Result<()> {
     let mut out = String::new(rt.alloc());
     let done = run_with(parts, rt.alloc(), input.as_slice(), &mut out);
     rt.print(out)?;
-    match done {
-        Ok(()) => Ok(()),
-        Err(HistoryError::NoMemory) => Err(anyhow!("there is no memory for this history")),
-    }
+    done.map_err(|_| anyhow!("there is no memory for this history"))
 }
 
 fn main(rt: HostRuntime) -> anyhow::Result<()> {

@@ -11,12 +11,12 @@ use Rattle.history_reply.specs.Stages.{Stage, before}
 use Rattle.history_reply.specs.Transcript.{said, after_line, ending, saying, printed_lines, together, transcript, Front}
 
 -- some first lines stand in out after what was there of old; the lines to come are those that the rest of the input prints from line n on
-pub record Sofar {C : Type 0} (stands : Stage → C → Type 0) (old : List ℕ) (lines : List (List ℕ)) (out rest : List ℕ) (n : ℕ) (clerk : C) : Type 0 where
+pub record Sofar {C : Type 0} (stands : Stage → C → Type 0) (old : List ℕ) (lines : List (List ℕ)) (out : List ℕ) (rest : List (List ℕ)) (n : ℕ) (clerk : C) : Type 0 where
   pub stage : Stage
   pub here : stands stage clerk
   pub printed : List (List ℕ)
   pub is : out ≡ old ++ together printed
-  pub all : printed ++ saying n stage (cut 10 rest) ≡ lines
+  pub all : printed ++ saying n stage rest ≡ lines
 
 together_append : (xs ys : List (List ℕ)) → together (xs ++ ys) ≡ together xs ++ together ys
 together_append [] ys = refl
@@ -64,31 +64,31 @@ pub record Ended (old : List ℕ) (lines : List (List ℕ)) (out : List ℕ) (r 
 
 module _ {C : Type 0} (stands : Stage → C → Type 0) (old : List ℕ) (lines : List (List ℕ)) where
   -- nothing is printed at the start
-  pub begun : (input : List ℕ) (clerk : C) → stands before clerk → saying 1 before (cut 10 input) ≡ lines → Sofar stands old lines old input 1 clerk
-  begun input clerk here all = record { stage = before; here = here; printed = []; is = sym (append-nil old); all = all }
+  pub begun : (rest : List (List ℕ)) (clerk : C) → stands before clerk → saying 1 before rest ≡ lines → Sofar stands old lines old rest 1 clerk
+  begun rest clerk here all = record { stage = before; here = here; printed = []; is = sym (append-nil old); all = all }
 
   -- one line more
-  pub one_line : (out new line rest more : List ℕ) (n : ℕ) (c d : C) → cut 10 rest ≡ line ∷ cut 10 more → (s : Sofar stands old lines out rest n c) → stands (after_line n s.stage line) d → new ≡ out ++ together (said n s.stage line) → Sofar stands old lines new more (n + 1) d
-  one_line out new line rest more n c d parts s here e = record {
+  pub one_line : (out new line : List ℕ) (rest more : List (List ℕ)) (n m : ℕ) (c d : C) → rest ≡ line ∷ more → m ≡ n + 1 → (s : Sofar stands old lines out rest n c) → stands (after_line n s.stage line) d → new ≡ out ++ together (said n s.stage line) → Sofar stands old lines new more m d
+  one_line out new line rest more n m c d parts next s here e = record {
     stage = after_line n s.stage line;
     here = here;
     printed = s.printed ++ said n s.stage line;
     is = printed_more old out new s.printed (said n s.stage line) s.is e;
     all =
-        append_assoc s.printed (said n s.stage line) (saying (n + 1) (after_line n s.stage line) (cut 10 more))
+        ap (λ (k : ℕ). (s.printed ++ said n s.stage line) ++ saying k (after_line n s.stage line) more) next
+        ∙ append_assoc s.printed (said n s.stage line) (saying (n + 1) (after_line n s.stage line) more)
         ∙ ap (λ (l : List (List ℕ)). s.printed ++ saying n s.stage l) (sym parts)
         ∙ s.all;
   }
 
-  -- the last line
-  pub last_line : (out new rest : List ℕ) (n : ℕ) (c : C) (r : Option Reply) → cut 10 rest ≡ rest ∷ [] → (s : Sofar stands old lines out rest n c) → new ≡ out ++ together (said n s.stage rest) → last_lines r ≡ ending (after_line n s.stage rest) → Ended old lines new r
-  last_line out new rest n c r parts s e f = record {
-    printed = s.printed ++ said n s.stage rest;
-    is = printed_more old out new s.printed (said n s.stage rest) s.is e;
+  -- no line is left
+  pub all_lines : (out : List ℕ) (rest : List (List ℕ)) (n : ℕ) (c : C) (r : Option Reply) → rest ≡ [] → (s : Sofar stands old lines out rest n c) → last_lines r ≡ ending s.stage → Ended old lines out r
+  all_lines out rest n c r none s f = record {
+    printed = s.printed;
+    is = s.is;
     all =
-        append_assoc s.printed (said n s.stage rest) (last_lines r)
-        ∙ ap (λ (l : List (List ℕ)). s.printed ++ (said n s.stage rest ++ l)) f
-        ∙ ap (λ (l : List (List ℕ)). s.printed ++ saying n s.stage l) (sym parts)
+        ap (λ (l : List (List ℕ)). s.printed ++ l) f
+        ∙ ap (λ (l : List (List ℕ)). s.printed ++ saying n s.stage l) (sym none)
         ∙ s.all;
   }
 

@@ -1,5 +1,5 @@
 // The lines of an input are answered. Where memory fails, the answers to some first lines stand there, whole.
-ghost use Rattle.std.specs.Prelude.{◌≡◌, ◌+◌, ◌<◌, ◌≤◌, ◌++◌, length, string_bytes, MatchResult};
+ghost use Rattle.std.specs.Prelude.{◌≡◌, ◌++◌, string_bytes, MatchResult};
 ghost use Rattle.history_reply.specs.Stages.{Stage, before};
 ghost use Rattle.history_reply.specs.Transcript.{printed_lines, transcript, Front};
 ghost use Rattle.history_lines.specs.Clerks.{Answered};
@@ -7,7 +7,7 @@ ghost use Rattle.history_lines.specs.Clerks.{Answered};
 use crate::clerk::Clerk;
 use history_reply::printing::put_reply;
 use history_reply::replies::Reply;
-use history_text::cuts::{Cut, split};
+use history_text::cuts::Parts;
 use history_text::reading::read;
 use std::alloc::{AllocError, Global};
 
@@ -21,7 +21,6 @@ fn answer_line<C: Clerk>(
     line: &[u8],
     out: &mut String,
 ) -> (C, Result<(), AllocError>)
-    requires { length line.now ≤ 65536 }
     ensures { (s : Stage) → C.Clerk.stands s clerk → Answered C.Clerk.stands n s line.now (string_bytes out.old) (string_bytes out.new) result.0 result.1 }
 {
     if line.is_empty() {
@@ -34,6 +33,8 @@ fn answer_line<C: Clerk>(
         ),
         Ok(command) => {
             let (next, answer) = clerk.obey(heap, n, command);
+
+            // By `and_then`, the proof would not see what the closure leaves in `out`.
             match answer {
                 Ok(reply) => (next, put_reply(heap, out, reply)),
                 Err(e) => (next, Err(e)),
@@ -54,29 +55,18 @@ pub fn print_history<C: Clerk>(
 {
     if input.len() > LONGEST {
         let _ = start.close();
-        put_reply(heap, out, Reply::TooLong)?;
-        return Ok(());
+        return put_reply(heap, out, Reply::TooLong);
     }
     let mut clerk = start;
-    let mut n = 1;
-    let mut rest = input;
-    while let Cut::More(line, more) = split(rest, b'\n') {
-        let (next, done) = answer_line(heap, clerk, n, line, out);
+    for (passed, line) in Parts::of(input, b'\n').enumerate() {
+        let (next, done) = answer_line(heap, clerk, passed as u64 + 1, line, out);
         clerk = next;
-        match done {
-            Ok(()) => {}
-            Err(e) => {
-                let _ = clerk.close();
-                return Err(e);
-            }
+        if let Err(e) = done {
+            let _ = clerk.close();
+            return Err(e);
         }
-        n += 1;
-        rest = more;
     }
-    let (last, done) = answer_line(heap, clerk, n, rest, out);
-    let farewell = last.close();
-    done?;
-    match farewell {
+    match clerk.close() {
         None => Ok(()),
         Some(reply) => put_reply(heap, out, reply),
     }

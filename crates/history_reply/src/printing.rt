@@ -39,10 +39,7 @@ impl fmt::Display for Said {
                 let number = e.number();
                 match e.inside() {
                     None => write!(f, "refused {number}"),
-                    Some(inner) => {
-                        let second = inner.number();
-                        write!(f, "refused {number} {second}")
-                    }
+                    Some(inner) => write!(f, "refused {number} {}", inner.number()),
                 }
             }
         }
@@ -55,14 +52,10 @@ impl fmt::Display for Reply {
     fn fmt<W: fmt::Write>(&self, f: &mut fmt::Formatter<W>) -> fmt::Result {
         match *self {
             Reply::Fault(cause, line, byte) => {
-                let number = cause.number();
-                write!(f, "text {number} {line} {byte}")
+                write!(f, "text {} {line} {byte}", cause.number())
             }
             Reply::TooLong => write!(f, "text 60 0 0"),
-            Reply::Answer(answer) => {
-                let said = Said(answer);
-                write!(f, "{said}")
-            }
+            Reply::Answer(answer) => write!(f, "{}", Said(answer)),
         }
     }
 }

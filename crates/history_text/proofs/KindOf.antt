@@ -6,7 +6,7 @@ use Rattle.history_text.specs.Numerals.{numeral}
 use Rattle.history_text.specs.Vocabulary.{spelled, word}
 use Rattle.history_text.specs.Fields.{numbered, kind, number_in, word_in}
 use Rattle.std.proofs.lemmas.Bool.{ne_eqb, cond-false}
-use Rattle.history_text.proofs.Naming.{word_is}
+use Rattle.history_text.proofs.Naming.{word_missing}
 
 kind_of_bytes : (x : ℕ) (xs : List ℕ) → numbered (x ∷ xs) (numeral (x ∷ xs)) ≡ kind (x ∷ xs)
 kind_of_bytes x xs = sym (cond-false (eqb (length (x ∷ xs)) 0) _ _ (ne_eqb (length (x ∷ xs)) 0 (λ e. omega arith)))
@@ -34,15 +34,11 @@ no_word_is_a_number Filed = refl
 no_word_is_a_number Back = refl
 
 number_spells_nothing : (xs : List ℕ) (n : ℕ) (w : Word) → numeral xs ≡ Some n → xs ≡ spelled w → ⊥
-number_spells_nothing xs n w e s =
-    let p : numeral (spelled w) ≡ Some n = ap numeral (sym s) ∙ e in
-    let q : numeral (spelled w) ≡ None = no_word_is_a_number w in
-    let z : ◌≡◌ {A = ℕ} 0 1 = cc in
-    omega arith
+number_spells_nothing xs n w e s = let p = no_word_is_a_number w in cc
 
 word_in_numbered : (xs : List ℕ) (o : Option ℕ) → numeral xs ≡ o → word xs ≡ word_in (numbered xs o)
 word_in_numbered xs None e = refl
-word_in_numbered xs (Some n) e = sym (word_is xs None (λ w. number_spells_nothing xs n w e))
+word_in_numbered xs (Some n) e = word_missing xs (λ w. number_spells_nothing xs n w e)
 
 pub word_in_kind : (xs : List ℕ) → word xs ≡ word_in (kind xs)
 unfolding word

@@ -10,11 +10,11 @@ use Rattle.history_text.specs.Vocabulary.{spelled, word_among, vocabulary, word,
 spelled_otherwise : (xs : List ℕ) (w : Word) → (xs ≡ spelled w → ⊥) → bytes_eq xs (spelled w) ≡ false
 spelled_otherwise xs w none-spelled = ⊎_elim (λ t. absurd (none-spelled ((bytes_eq-Decides xs (spelled w)).0 t))) (λ e. e) (cases_Bool (bytes_eq xs (spelled w)))
 
-word_among_none : (ws : List Word) (xs : List ℕ) → ((w : Word) → xs ≡ spelled w → ⊥) → None ≡ word_among ws xs
+word_among_none : (ws : List Word) (xs : List ℕ) → ((w : Word) → xs ≡ spelled w → ⊥) → word_among ws xs ≡ None
 word_among_none [] xs none-spelled = refl
-word_among_none (w ∷ ws) xs none-spelled = word_among_none ws xs none-spelled ∙ sym (cond-false (bytes_eq xs (spelled w)) (Some w) (word_among ws xs) (spelled_otherwise xs w (none-spelled w)))
+word_among_none (w ∷ ws) xs none-spelled = cond-false (bytes_eq xs (spelled w)) (Some w) (word_among ws xs) (spelled_otherwise xs w (none-spelled w)) ∙ word_among_none ws xs none-spelled
 
-word_of_spelled : (w : Word) → Some w ≡ word (spelled w)
+word_of_spelled : (w : Word) → word (spelled w) ≡ Some w
 unfolding word
 word_of_spelled Link = refl
 word_of_spelled Sess = refl
@@ -27,7 +27,10 @@ word_of_spelled Take = refl
 word_of_spelled Filed = refl
 word_of_spelled Back = refl
 
-pub word_is : (xs : List ℕ) (r : Option Word) → Spells xs r → r ≡ word xs
+pub word_missing : (xs : List ℕ) → ((w : Word) → xs ≡ spelled w → ⊥) → word xs ≡ None
 unfolding word
-word_is xs None h = word_among_none vocabulary xs h
-word_is xs (Some w) h = word_of_spelled w ∙ ap word (sym h)
+word_missing xs h = word_among_none vocabulary xs h
+
+pub word_is : (xs : List ℕ) (r : Option Word) → Spells xs r → r ≡ word xs
+word_is xs None h = sym (word_missing xs h)
+word_is xs (Some w) h = sym (ap word h ∙ word_of_spelled w)

@@ -1,32 +1,50 @@
 -- The first part of a text, up to the first byte at which it is cut. Assumes nothing.
-use Rattle.std.proofs.Common.{◌≡◌, ℕ, zero, suc, ◌+◌, ◌-◌, ◌<◌, eqb, List, [], ◌∷◌, length, get_or, take, drop, refl, ap, ◌∙◌, not-suc-le-zero, arith, length-drop, length-take}
+use Rattle.std.proofs.Common.{◌≡◌, ℕ, ◌+◌, ◌-◌, ◌<◌, ◌≤◌, eqb, List, [], ◌∷◌, length, take, drop, true, false, refl, Some, None, ⊎_elim, arith}
+use Rattle.std.specs.List.{position, position_or_len, onto_first}
 use Rattle.std.proofs.lemmas.List.{take_rest}
-use Rattle.std.proofs.lemmas.Bool.{eq-eqb, ne_eqb, cond-true, cond-false}
-use Rattle.history_text.specs.Cuts.{onto, cut, Divided}
+use Rattle.std.proofs.lemmas.List.Splits.{slice_split_first, slice_split_none, length-slice_split}
+use Rattle.std.proofs.lemmas.List.Sums.{fails_before_first, count_by-le-length}
+use Rattle.std.proofs.lemmas.Bool.{cases_Bool, cases_lt, lt-ltb, le-ltb, cond-true, cond-false}
+use Rattle.history_text.specs.Cuts.{cut, spread}
 
--- the byte s is not among the first n
-abbrev pub Lacks : ℕ → List ℕ → ℕ → Type 0
-Lacks s xs n = (k : ℕ) → k < n → get_or xs k 0 ≡ s → ⊥
+module _ (s : ℕ) (xs : List ℕ) where
+  found : position_or_len (λ x. eqb x s) xs < length xs → position (λ x. eqb x s) xs ≡ Some (position_or_len (λ x. eqb x s) xs)
+  found h = cond-true _ _ _ (lt-ltb _ _ h)
 
-pub cut_at_first : (s : ℕ) (xs : List ℕ) (i : ℕ) → i < length xs → Lacks s xs i → get_or xs i 0 ≡ s → cut s xs ≡ take i xs ∷ cut s (drop (suc i) xs)
-cut_at_first s [] i h lacks here = absurd (not-suc-le-zero h)
-cut_at_first s (x ∷ xs) zero h lacks here = cond-true (eqb x s) _ _ (eq-eqb x s here)
-cut_at_first s (x ∷ xs) (suc i) h lacks here =
-    cond-false (eqb x s) _ _ (ne_eqb x s (lacks 0 (omega arith)))
-    ∙ ap (onto x) (cut_at_first s xs i (omega arith) (λ k l. lacks (suc k) (omega arith)) here)
+  missing : length xs ≤ position_or_len (λ x. eqb x s) xs → position (λ x. eqb x s) xs ≡ None
+  missing h = cond-false _ _ _ (le-ltb _ _ h)
 
-pub cut_nowhere : (s : ℕ) (xs : List ℕ) → Lacks s xs (length xs) → cut s xs ≡ xs ∷ []
-cut_nowhere s [] lacks = refl
-cut_nowhere s (x ∷ xs) lacks =
-    cond-false (eqb x s) _ _ (ne_eqb x s (lacks 0 (omega arith)))
-    ∙ ap (onto x) (cut_nowhere s xs (λ k l. lacks (suc k) (omega arith)))
+  -- the byte s stands first at i; the rest is written as `&text[i + 1..]` is read
+  pub cut_at : (i : ℕ) → position (λ x. eqb x s) xs ≡ Some i → cut s xs ≡ take i xs ∷ cut s (take (length xs - (i + 1)) (drop (i + 1) xs))
+  cut_at i e =
+      ⊎_elim
+      (λ (h : position_or_len (λ x. eqb x s) xs < length xs).
+      let f = found h in
+      let same : position_or_len (λ x. eqb x s) xs ≡ i = cc in
+      rw (take_rest xs (i + 1), ← same) (slice_split_first (λ x. eqb x s) xs 0 h))
+      (λ (h : length xs ≤ position_or_len (λ x. eqb x s) xs). let n = missing h in cc)
+      (cases_lt (position_or_len (λ x. eqb x s) xs) (length xs))
 
-pub divided : (s : ℕ) (xs : List ℕ) (i : ℕ) → i < length xs → Lacks s xs i → get_or xs i 0 ≡ s → Divided s xs (take i xs) (drop (suc i) xs)
-divided s xs i h lacks here = record { parts = cut_at_first s xs i h lacks here; size = omega (arith, length-take i xs, length-drop (suc i) xs) }
+  -- it stands nowhere
+  pub cut_nowhere : position (λ x. eqb x s) xs ≡ None → cut s xs ≡ xs ∷ []
+  cut_nowhere e =
+      ⊎_elim
+      (λ (h : position_or_len (λ x. eqb x s) xs < length xs). let f = found h in cc)
+      (λ (h : length xs ≤ position_or_len (λ x. eqb x s) xs). slice_split_none (λ x. eqb x s) xs (λ k d l. fails_before_first (λ x. eqb x s) xs k d (omega arith)))
+      (cases_lt (position_or_len (λ x. eqb x s) xs) (length xs))
 
--- the same, as `&text[0..i]` and `&text[i + 1..]` are read
-pub divided_at : (s : ℕ) (xs : List ℕ) (i : ℕ) → i < length xs → Lacks s xs i → get_or xs i 0 ≡ s → Divided s xs (take (i - 0) xs) (take (length xs - (i + 1)) (drop (i + 1) xs))
-divided_at s xs i h lacks here =
-    let a : i - 0 ≡ i = omega arith in
-    let b : i + 1 ≡ suc i = omega arith in
-    rw (take_rest xs (i + 1), a, b) (divided s xs i h lacks here)
+spread_onto : (x : ℕ) (parts : List (List ℕ)) → 0 < length parts → spread (onto_first x parts) ≡ spread parts + 1
+spread_onto x [] h = absurd (omega arith)
+spread_onto x (part ∷ parts) h = omega arith
+
+-- a text's bytes, and one more
+pub spread_cut : (s : ℕ) (xs : List ℕ) → spread (cut s xs) ≡ length xs + 1
+spread_cut s [] = refl
+spread_cut s (x ∷ xs) =
+    ⊎_elim
+    (λ (t : eqb x s ≡ true). rw t (omega (arith, spread_cut s xs)))
+    (λ (f : eqb x s ≡ false). rw f (omega (arith, spread_onto x (cut s xs) (omega (arith, length-slice_split (λ y. eqb y s) xs)), spread_cut s xs)))
+    (cases_Bool (eqb x s))
+
+pub length_cut : (s : ℕ) (xs : List ℕ) → length (cut s xs) ≤ length xs + 1
+length_cut s xs = omega (arith, length-slice_split (λ x. eqb x s) xs, count_by-le-length (λ x. eqb x s) xs)

@@ -1,12 +1,13 @@
 -- The fields of a line: their bytes, what each is, and the byte at which it begins, counted from 1. Assumes nothing.
 use Rattle.std.specs.Prelude.{◌≡◌, ℕ, ◌+◌, cond, List, [], ◌∷◌, length, Some, None, Err, Option, Result, MatchOption, ◌==◌}
-use Rattle.std.specs.Borrow.{Bor}
 use Rattle.std.specs.Option.{ok_or}
 use Rattle.history_text.specs.declared.fields.Token.{Token}
 use Rattle.history_text.specs.declared.fields.Token.TheVariants as token
 use Rattle.history_text.specs.declared.fields.Field.{Field}
 use Rattle.history_text.specs.declared.fields.Fields.{Fields}
-use Rattle.history_text.specs.Cuts.{cut}
+use Rattle.history_text.specs.declared.faults.Cause.TheVariants.{NoNumber}
+use Rattle.history_text.specs.declared.faults.Fault.{Fault}
+use Rattle.history_text.specs.Parts.{left}
 use Rattle.history_text.specs.Numerals.{numeral}
 use Rattle.history_text.specs.declared.words.Word.{Word}
 use Rattle.history_text.specs.Vocabulary.{word}
@@ -43,22 +44,22 @@ word_in (number n) = None
 word_in (letters xs) = word xs
 
 -- the fields that a reader of them has not passed yet
-abbrev pub coming_in : Option (Bor (List ℕ)) → List (List ℕ)
-coming_in None = []
-coming_in (Some text) = cut 32 text.now
-
 abbrev pub coming : Fields → List (List ℕ)
-coming f = coming_in f.rest
+coming f = left f.parts
 
 -- the first field, which begins at the byte `at`, is read as this
 abbrev pub First : ℕ → List (List ℕ) → Option Field → Type 0
 First at [] r = r ≡ None
 First at (f ∷ fs) r = MatchOption r ⊥ (λ g. (shown g.token ≡ kind f) × (g.place ≡ at))
 
--- the number of the first field, or the byte at which it begins if it is none
-abbrev pub first_number : ℕ → List (List ℕ) → Result ℕ ℕ
-first_number at [] = Err at
-first_number at (f ∷ fs) = ok_or (numeral f) at
+-- at this byte there is no number
+abbrev pub no_number : ℕ → Fault
+no_number at = record { cause = NoNumber; byte = at }
+
+-- the number of the first field, which begins at the byte `at`
+abbrev pub first_number : ℕ → List (List ℕ) → Result ℕ Fault
+first_number at [] = Err (no_number at)
+first_number at (f ∷ fs) = ok_or (numeral f) (no_number at)
 
 -- the fields after the first
 abbrev pub later : List (List ℕ) → List (List ℕ)
@@ -70,10 +71,8 @@ abbrev pub onward : ℕ → List (List ℕ) → ℕ
 onward at [] = at
 onward at (f ∷ fs) = at + (length f + 1)
 
--- how far the fields can reach: no field begins at a later byte
-abbrev pub size_in : Option (Bor (List ℕ)) → ℕ
-size_in None = 0
-size_in (Some text) = length text.now
-
-abbrev pub reach : Fields → ℕ
-reach f = f.place + size_in f.rest
+-- a reader of fields gave the first field that was to come, and goes on after it
+pub record TakesField (s : Fields) (r : Option Field) (t : Fields) : Type 0 where
+  pub first : First s.place (coming s) r
+  pub rest : coming t ≡ later (coming s)
+  pub place : t.place ≡ onward s.place (coming s)

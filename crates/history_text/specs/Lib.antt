@@ -1,4 +1,5 @@
 pub mod Cuts
+pub mod Parts
 pub mod Numerals
 pub mod Vocabulary
 pub mod Fields

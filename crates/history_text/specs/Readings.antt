@@ -8,9 +8,10 @@ use Rattle.history_text.specs.declared.commands.Phase.TheVariants as phase
 use Rattle.history_text.specs.declared.commands.Command.{Command}
 use Rattle.history_text.specs.declared.commands.Command.TheVariants as command
 use Rattle.history_text.specs.declared.faults.Cause.{Cause}
-use Rattle.history_text.specs.declared.faults.Cause.TheVariants.{Unknown, Untimely, Miscounted, NoNumber}
+use Rattle.history_text.specs.declared.faults.Cause.TheVariants.{Unknown, Untimely, Miscounted}
 use Rattle.history_text.specs.declared.faults.Fault.{Fault}
 use Rattle.history_text.specs.Numerals.{numeral}
+use Rattle.history_text.specs.Fields.{no_number}
 use Rattle.history_text.specs.Vocabulary.{word, arity}
 
 -- before an accepted `link`: only `link`
@@ -64,16 +65,16 @@ judged p None n = Err Unknown
 judged p (Some w) n = cond (in_turn p w) (cond (n == arity w) (Ok w) (Err Miscounted)) (Err Untimely)
 
 -- a number before others
-abbrev pub prepend : ℕ → Result (List ℕ) ℕ → Result (List ℕ) ℕ
+abbrev pub prepend : ℕ → Result (List ℕ) Fault → Result (List ℕ) Fault
 prepend n (Ok ns) = Ok (n ∷ ns)
 prepend n (Err e) = Err e
 
-abbrev pub joined : ℕ → Option ℕ → Result (List ℕ) ℕ → Result (List ℕ) ℕ
-joined at None r = Err at
+abbrev pub joined : ℕ → Option ℕ → Result (List ℕ) Fault → Result (List ℕ) Fault
+joined at None r = Err (no_number at)
 joined at (Some n) r = prepend n r
 
--- the numbers of the fields, of which the first begins at the byte `at`; or the byte at which the first field begins that is no number
-abbrev pub numbers : ℕ → List (List ℕ) → Result (List ℕ) ℕ
+-- the numbers of the fields, of which the first begins at the byte `at`; or that the first field is at fault that is no number
+abbrev pub numbers : ℕ → List (List ℕ) → Result (List ℕ) Fault
 numbers at [] = Ok []
 numbers at (f ∷ fs) = joined at (numeral f) (numbers (at + (length f + 1)) fs)
 
@@ -90,17 +91,13 @@ command_of Take ns = command.Take
 command_of Filed ns = command.File
 command_of Back ns = command.Return
 
-abbrev pub commanded : Word → Result (List ℕ) ℕ → Result Command ℕ
+abbrev pub commanded : Word → Result (List ℕ) Fault → Result Command Fault
 commanded w (Ok ns) = Ok (command_of w ns)
-commanded w (Err at) = Err at
-
-abbrev pub or_no_number : Result Command ℕ → Result Command Fault
-or_no_number (Ok c) = Ok c
-or_no_number (Err at) = Err (record { cause = NoNumber; byte = at })
+commanded w (Err e) = Err e
 
 abbrev pub asked : Result Word Cause → ℕ → List (List ℕ) → Result Command Fault
 asked (Err c) at fs = Err (record { cause = c; byte = 1 })
-asked (Ok w) at fs = or_no_number (commanded w (numbers at fs))
+asked (Ok w) at fs = commanded w (numbers at fs)
 
 -- what the fields of a line ask for; no line is cut into no fields
 abbrev pub reading : Phase → List (List ℕ) → Result Command Fault

@@ -1,7 +1,7 @@
 // What a line can ask for, and when.
 
 // Where a history stands: before an accepted link, at a draft, at an open link without a slip in hand, or with one.
-#[derive(Clone, Copy)]
+#[derive(Clone, Copy, PartialEq, Eq, Debug)]
 pub enum Phase {
     Before,
     Draft,
@@ -9,7 +9,7 @@ pub enum Phase {
     Holding,
 }
 
-#[derive(Clone, Copy)]
+#[derive(Clone, Copy, PartialEq, Eq, Debug)]
 pub enum Command {
     // link number, largest length, capacity, weight of session 0
     Make(u64, u64, u64, u64),

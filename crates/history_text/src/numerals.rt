@@ -8,23 +8,19 @@ fn amount_of(digits: &[u8]) -> Option<u64>
 {
     let mut n: u64 = 0;
     for b in digits {
-        if *b < b'0' {
-            return None;
-        }
-        if *b > b'9' {
-            return None;
-        }
-        n = n.checked_mul(10)?.checked_add(u64::from(*b - b'0'))?;
+        let digit = char::from(*b).to_digit(10)?;
+        n = n.checked_mul(10)?.checked_add(u64::from(digit))?;
     }
     Some(n)
 }
 
 // The number that the bytes write, with no leading zero.
+#[tactic(auto, unfolding(crate::specs::Numerals::numeral))]
 pub fn number_of(bytes: &[u8]) -> Option<u64>
     ensures { result ≡ numeral bytes.now }
 {
-    if bytes.is_empty() || (bytes.len() > 1 && bytes[0] == b'0') {
-        return None;
+    match bytes {
+        [] | [b'0', _, ..] => None,
+        digits => amount_of(digits),
     }
-    amount_of(bytes)
 }

@@ -1,14 +1,14 @@
 // A line is read: its word, then its numbers.
-ghost use Rattle.std.specs.Prelude.{◌≡◌, ◌<◌, ◌≤◌, length, IfOk};
+ghost use Rattle.std.specs.Prelude.{◌≡◌, length, IfOk};
 ghost use Rattle.history_text.specs.Cuts.{cut};
 ghost use Rattle.history_text.specs.Vocabulary.{arity};
-ghost use Rattle.history_text.specs.Fields.{shown, word_in, coming, reach};
+ghost use Rattle.history_text.specs.Fields.{shown, word_in, coming, later};
 ghost use Rattle.history_text.specs.Readings.{in_turn, judged, numbers, commanded, reading};
 
 use crate::commands::{Command, Phase};
 use crate::faults::{Cause, Fault};
 use crate::fields::{Fields, Token};
-use crate::words::{Word, word_of};
+use crate::words::Word;
 
 // Before an accepted link only `link`; in a draft `sess` and `open`; then the rest, but `take` only without a slip in hand, and `filed` and
 // `back` only with one.
@@ -16,22 +16,16 @@ fn is_in_turn(phase: Phase, word: Word) -> bool
     ensures { result ≡ in_turn phase word }
 {
     match phase {
-        Phase::Before => match word {
-            Word::Link => true,
-            _ => false,
-        },
-        Phase::Draft => match word {
-            Word::Sess | Word::Open => true,
-            _ => false,
-        },
-        Phase::Open => match word {
-            Word::Arr | Word::At | Word::Figs | Word::Tots | Word::Take => true,
-            _ => false,
-        },
-        Phase::Holding => match word {
-            Word::Arr | Word::At | Word::Figs | Word::Tots | Word::Filed | Word::Back => true,
-            _ => false,
-        },
+        Phase::Before => matches!(word, Word::Link),
+        Phase::Draft => matches!(word, Word::Sess | Word::Open),
+        Phase::Open => matches!(
+            word,
+            Word::Arr | Word::At | Word::Figs | Word::Tots | Word::Take
+        ),
+        Phase::Holding => matches!(
+            word,
+            Word::Arr | Word::At | Word::Figs | Word::Tots | Word::Filed | Word::Back
+        ),
     }
 }
 
@@ -43,9 +37,7 @@ fn judge(phase: Phase, token: Token, after: usize) -> Result<Word, Cause>
     let Token::Word(bytes) = token else {
         return Err(Cause::Unknown);
     };
-    let Some(word) = word_of(bytes) else {
-        return Err(Cause::Unknown);
-    };
+    let word = Word::try_from(bytes)?;
     if !is_in_turn(phase, word) {
         return Err(Cause::Untimely);
     }
@@ -55,10 +47,9 @@ fn judge(phase: Phase, token: Token, after: usize) -> Result<Word, Cause>
     Ok(word)
 }
 
-// The command of the word, with a number from each of the fields; or the byte at which the first field begins that is no number.
-fn command_from(word: Word, fields: &mut Fields) -> Result<Command, usize>
-    requires counted { length (coming fields.old) ≡ arity word }
-    requires short { reach fields.old ≤ 65540 }
+// The command of the word, with a number from each of the fields.
+fn command_from(word: Word, fields: &mut Fields) -> Result<Command, Fault>
+    requires { length (coming fields.old) ≡ arity word }
     ensures { result ≡ commanded word (numbers fields.old.place (coming fields.old)) }
 {
     match word {
@@ -86,38 +77,34 @@ fn command_from(word: Word, fields: &mut Fields) -> Result<Command, usize>
     }
 }
 
-// What all fields of a line ask for.
-fn read_fields(phase: Phase, fields: &mut Fields) -> Result<Command, Fault>
+#[tactic(auto, using(crate::proofs::LineRead::fields_after))]
+fn count_after_first(line: &[u8]) -> usize
+    ensures { result ≡ length (later (cut 32 line.now)) }
+{
+    line.iter().filter(|b| **b == b' ').count()
+}
+
+// What all fields of a line ask for, with so many after the first.
+fn read_fields(phase: Phase, fields: &mut Fields, after: usize) -> Result<Command, Fault>
     requires first { fields.old.place ≡ 1 }
-    requires short { reach fields.old ≤ 65537 }
+    requires counted { after ≡ length (later (coming fields.old)) }
     ensures { result ≡ reading phase (coming fields.old) }
 {
-    let Some(first) = fields.next_field() else {
-        return Err(Fault {
-            cause: Cause::Unknown,
-            byte: 1,
-        });
-    };
-    match judge(phase, first.token, fields.count()) {
-        Err(cause) => Err(Fault {
-            cause,
-            byte: first.place,
-        }),
-        Ok(word) => match command_from(word, fields) {
-            Ok(command) => Ok(command),
-            Err(byte) => Err(Fault {
-                cause: Cause::NoNumber,
-                byte,
-            }),
-        },
-    }
+    let first = fields.next().ok_or(Fault {
+        cause: Cause::Unknown,
+        byte: 1,
+    })?;
+    let word = judge(phase, first.token, after).map_err(|cause| Fault {
+        cause,
+        byte: first.place,
+    })?;
+    command_from(word, fields)
 }
 
 // What a line that is not empty asks for.
 pub fn read(phase: Phase, line: &[u8]) -> Result<Command, Fault>
-    requires { length line.now ≤ 65536 }
     ensures { result ≡ reading phase (cut 32 line.now) }
 {
     let mut fields = Fields::of(line);
-    read_fields(phase, &mut fields)
+    read_fields(phase, &mut fields, count_after_first(line))
 }

@@ -1,8 +1,12 @@
 // The words that a line may begin with.
 ghost use Rattle.std.specs.Prelude.{◌≡◌};
+ghost use Rattle.std.specs.Option.{ok_or};
+ghost use Rattle.history_text.specs.declared.faults.Cause.TheVariants.{Unknown};
 ghost use Rattle.history_text.specs.Vocabulary.{Spells, word, arity};
 
-#[derive(Clone, Copy)]
+use crate::faults::Cause;
+
+#[derive(Clone, Copy, PartialEq, Eq, Debug)]
 pub enum Word {
     Link,
     Sess,
@@ -16,6 +20,7 @@ pub enum Word {
     Back,
 }
 
+#[tactic(auto, using(std::proofs::lemmas::Slice::Eq::text_from_reads))]
 fn spell(bytes: &[u8]) -> Option<Word>
     ensures { Spells bytes.now result }
 {
@@ -58,10 +63,14 @@ fn spell(bytes: &[u8]) -> Option<Word>
 }
 
 // The word that the bytes spell.
-pub fn word_of(bytes: &[u8]) -> Option<Word>
-    ensures { result ≡ word bytes.now }
-{
-    spell(bytes)
+impl<'a> TryFrom<&'a [u8]> for Word {
+    type Error = Cause;
+
+    ghost try_from_gives = { λ bytes spelled. spelled ≡ ok_or (word bytes.now) Unknown };
+
+    fn try_from(bytes: &'a [u8]) -> Result<Word, Cause> {
+        spell(bytes).ok_or(Cause::Unknown)
+    }
 }
 
 impl Word {

@@ -9,6 +9,7 @@
 #![tactic(auto)]
 
 mod both;
+mod outcome;
 mod playing;
 mod reading;
 mod telling;

@@ -1,7 +1,10 @@
 // Lines of the input: weights, and steps.
-use std::alloc::Global;
-use std::fmt;
+use crate::outcome::Refused;
+use slot_clock::refusal::ClockRefusal;
+use std::alloc::{AllocError, Global};
 use std::io::{BufRead, BufReader};
+use std::str::FromStr;
+use std::{fmt, io};
 
 #[derive(Clone, Copy)]
 pub enum Step {
@@ -26,59 +29,68 @@ pub enum Fault {
 
 impl fmt::Display for Fault {
     fn fmt<W: fmt::Write>(&self, f: &mut fmt::Formatter<W>) -> fmt::Result {
-        match self {
-            Fault::Weight => write!(f, "a weight is no number below 2^64"),
-            Fault::NotTwoFields => write!(f, "it is not two fields with a space between"),
-            Fault::Ticks => write!(f, "the ticks are no number below 2^64"),
-            Fault::Stamp => write!(f, "the stamp is no number below 2^64"),
-            Fault::Session => write!(f, "the session is no number below 2^64"),
-            Fault::Length => write!(f, "the length is no number below 2^64"),
-        }
+        f.write_str(match self {
+            Fault::Weight => "a weight is no number below 2^64",
+            Fault::NotTwoFields => "it is not two fields with a space between",
+            Fault::Ticks => "the ticks are no number below 2^64",
+            Fault::Stamp => "the stamp is no number below 2^64",
+            Fault::Session => "the session is no number below 2^64",
+            Fault::Length => "the length is no number below 2^64",
+        })
     }
 }
 
 fn number(text: &str, fault: Fault) -> Result<u64, Fault> {
-    match text.parse::<u64>() {
-        Ok(value) => Ok(value),
-        Err(_) => Err(fault),
-    }
+    text.parse::<u64>().map_err(|_| fault)
 }
 
 // The step that a line says.
-pub fn step_of(text: &str) -> Result<Step, Fault> {
-    let Some((left, right)) = text.split_once(' ') else {
-        return Err(Fault::NotTwoFields);
-    };
-    if left == "run" {
-        return Ok(Step::Run(number(right, Fault::Ticks)?));
+impl FromStr for Step {
+    type Err = Fault;
+
+    fn from_str(text: &str) -> Result<Step, Fault> {
+        let (left, right) = text.split_once(' ').ok_or(Fault::NotTwoFields)?;
+        match left {
+            "run" => Ok(Step::Run(number(right, Fault::Ticks)?)),
+            "put" => Ok(Step::Put(number(right, Fault::Stamp)?)),
+            _ => Ok(Step::Packet(number(left, Fault::Session)?, number(right, Fault::Length)?)),
+        }
     }
-    if left == "put" {
-        return Ok(Step::Put(number(right, Fault::Stamp)?));
+}
+
+// Why a line makes no clocks.
+#[derive(Clone, Copy)]
+pub enum NoClocks {
+    Fault(Fault),
+    Refused(Refused),
+    NoMemory(AllocError),
+}
+
+impl From<AllocError> for NoClocks {
+    fn from(e: AllocError) -> NoClocks {
+        NoClocks::NoMemory(e)
     }
-    let session = number(left, Fault::Session)?;
-    Ok(Step::Packet(session, number(right, Fault::Length)?))
+}
+
+impl From<ClockRefusal> for NoClocks {
+    fn from(e: ClockRefusal) -> NoClocks {
+        NoClocks::Refused(Refused::from(e))
+    }
 }
 
 // The weights that a line lists, none if it is empty.
-pub fn weights_of(heap: Global, text: &str) -> anyhow::Result<Result<Vec<u64>, Fault>> {
-    let mut weights = Vec::new(heap);
+pub fn weights_of(heap: Global, text: &str) -> Result<Vec<u64>, NoClocks> {
     if text.is_empty() {
-        return Ok(Ok(weights));
+        return Ok(Vec::new(heap));
     }
-    for word in text.split(' ') {
-        match number(word, Fault::Weight) {
-            Ok(weight) => weights.push(weight)?,
-            Err(fault) => return Ok(Err(fault)),
-        }
-    }
-    Ok(Ok(weights))
+    text.split(' ')
+        .map(|word| number(word, Fault::Weight).map_err(NoClocks::Fault))
+        .try_collect(heap)
 }
 
 // The lines of standard input.
-pub fn input_lines(rt: &HostRuntime) -> anyhow::Result<Vec<String>> {
-    let mut texts = Vec::new(rt.alloc());
-    for text in BufReader::new(rt.alloc(), rt.stdin())?.lines(rt.alloc()) {
-        texts.push(text?)?;
-    }
-    Ok(texts)
+pub fn input_lines(rt: &HostRuntime) -> io::Result<Vec<String>> {
+    BufReader::new(rt.alloc(), rt.stdin())?
+        .lines(rt.alloc())
+        .try_collect(rt.alloc())
 }

@@ -1,8 +1,7 @@
 -- One step of a sift, and the first of a heap as its least. Assumes nothing.
 use Rattle.std.proofs.Common.{◌≡◌, ℕ, zero, suc, ◌+◌, ◌*◌, ◌<◌, ◌≤◌, Bool, true, false, List, length, get_or, refl, ap, ◌∙◌, ⊎_elim, arith}
-use Rattle.std.proofs.lemmas.List.{get_or_default}
 use Rattle.std.proofs.lemmas.Bool.{cases_eq}
-use Rattle.heap_order.specs.Heaps.{parent, Heaped, HeapedAt, Loose, Heavy, LeastChild}
+use Rattle.heap_order.specs.Heaps.{parent, Heaped, FirstLeast, Loose, Heavy, LeastChild}
 
 -- a list after an exchange of the elements at a and b
 pub record Swap {X : Type 0} (xs ys : List X) (a b : ℕ) : Type 0 where
@@ -17,13 +16,6 @@ swap_of l p q r = record { long = l; one = p; two = q; other = r }
 
 at : {X : Type 0} (xs : List X) (d : X) (k j : ℕ) → k ≡ j → get_or xs k d ≡ get_or xs j d
 at xs d k j e = ap (λ m. get_or xs m d) e
-
--- a heap read at one default is a heap
-pub heaped_from : {X : Type 0} (before : X → X → Bool) (e : X) (xs : List X) → HeapedAt before e xs → Heaped before xs
-heaped_from before e xs h k d lo l = (λ i. before (get_or_default xs k d e l i) (get_or_default xs (parent k) d e (omega arith) i)) ∙ h k lo l
-
-pub heaped_at : {X : Type 0} (before : X → X → Bool) (e : X) (xs : List X) → Heaped before xs → HeapedAt before e xs
-heaped_at before e xs h k lo l = h k e lo l
 
 module _ {X : Type 0} (before : X → X → Bool)
     (total : (x y : X) → before x y ≡ true → before y x ≡ false)
@@ -103,5 +95,5 @@ module _ {X : Type 0} (before : X → X → Bool)
   first_within xs h (suc fuel) (suc k) d a b = transitive _ _ _ (h (suc k) d (omega arith) b) (first_within xs h fuel (parent (suc k)) d (omega arith) (omega arith))
 
   -- no element of a heap is before the first
-  pub first_least : (xs : List X) → Heaped before xs → (k : ℕ) (d : X) → k < length xs → before (get_or xs k d) (get_or xs 0 d) ≡ false
+  pub first_least : (xs : List X) → Heaped before xs → FirstLeast before xs
   first_least xs h k d l = first_within xs h k k d (omega arith) l

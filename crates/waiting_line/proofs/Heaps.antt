@@ -1,9 +1,8 @@
 -- The heap of a line: its first pair is the least, and what a put and a take leave. Assumes nothing.
-use Rattle.std.proofs.Common.{◌≡◌, ℕ, suc, ◌+◌, ◌<◌, ◌≤◌, true, false, List, [], ◌∷◌, ◌++◌, length, get_or, Some, None, sym, refl, ap, ◌∙◌, subst, ⊎_elim, not-suc-le-zero, arith}
+use Rattle.std.proofs.Common.{◌≡◌, ℕ, suc, ◌+◌, ◌<◌, ◌≤◌, true, false, List, [], ◌∷◌, ◌++◌, length, get_or, slice_get, Some, None, sym, refl, ap, ◌∙◌, subst, ⊎_elim, arith}
 use Rattle.std.specs.List.Sorted.{IsPermutation}
-use Rattle.std.proofs.lemmas.Bool.{ltb-true, ltb-false, le-ltb, ne_eqb, and_parts, or_from, cases_order, cases_eq}
-use Rattle.heap_order.specs.Heaps.{HeapedAt}
-use Rattle.heap_order.proofs.Sifting.{heaped_from, first_least}
+use Rattle.std.proofs.lemmas.Bool.{ltb-false, and_parts, cases_order, cases_eq}
+use Rattle.heap_order.specs.Heaps.{FirstLeast}
 use Rattle.tick_machine.specs.Lists.{total, insert}
 use Rattle.waiting_line.specs.declared.pair.Pair.{Pair}
 use Rattle.waiting_line.specs.Lines.{stamp_of, holds, first, rest}
@@ -11,15 +10,8 @@ use Rattle.waiting_line.specs.Kept.{blank, all_above, in_order, by_stamp, sorted
 use Rattle.waiting_line.specs.Orders.{put_in_order}
 use Rattle.waiting_line.specs.Sums.{total_shuffled, total_push, weight, weight_at, weight_off, hit, hit_at, hit_off, total_sorted, light, same_by_sums, not_there, Apart, sorted_in_order, holds_sorted}
 
--- stamps are in a total order
-total_order : (x y : Pair) → by_stamp x y ≡ true → by_stamp y x ≡ false
-total_order x y h = le-ltb _ _ (omega (arith, ltb-true x.stamp y.stamp h))
-
-transitive_order : (x y z : Pair) → by_stamp x y ≡ false → by_stamp y z ≡ false → by_stamp x z ≡ false
-transitive_order x y z h k = le-ltb _ _ (omega (arith, ltb-false x.stamp y.stamp h, ltb-false y.stamp z.stamp k))
-
-first_lowest : (ps : List Pair) → HeapedAt by_stamp blank ps → (k : ℕ) → k < length ps → (get_or ps 0 blank).stamp ≤ (get_or ps k blank).stamp
-first_lowest ps h k l = ltb-false _ _ (first_least by_stamp total_order transitive_order ps (heaped_from by_stamp blank ps h) k blank l)
+first_lowest : (ps : List Pair) → FirstLeast by_stamp ps → (k : ℕ) → k < length ps → (get_or ps 0 blank).stamp ≤ (get_or ps k blank).stamp
+first_lowest ps h k l = ltb-false _ _ (h k blank l)
 
 -- a put
 pub put_apart : (p : Pair) (ps qs : List Pair) → IsPermutation (ps ++ p ∷ []) qs → Apart ps → holds p.stamp ps ≡ false → Apart qs
@@ -32,11 +24,6 @@ pub put_sorted : (p : Pair) (ps qs : List Pair) → IsPermutation (ps ++ p ∷ [
 put_sorted p ps qs h a n = same_by_sums (sorted qs) (insert stamp_of p (sorted ps)) (sorted_in_order qs (put_apart p ps qs h a n))
     (put_in_order p (sorted ps) (sorted_in_order ps a) (holds_sorted p.stamp ps ∙ n))
     (λ s. omega (arith, total_sorted (weight s) qs, total_shuffled (weight s) _ _ h, total_push (weight s) ps p, total_sorted (weight s) (p ∷ ps), total_sorted (weight s) ps))
-
--- a stamp that no pair has
-pub absent : (s : ℕ) (ps : List Pair) → ((k : ℕ) → k < length ps → (get_or ps k blank).stamp ≡ s → ⊥) → holds s ps ≡ false
-absent s [] h = refl
-absent s (p ∷ ps) h = or_from _ _ (ne_eqb _ _ (λ (e : s ≡ p.stamp). h 0 (omega arith) (sym e))) (absent s ps (λ k l. h (suc k) (omega arith)))
 
 -- the first of the heap leads the line
 none_below : (s : ℕ) (ps : List Pair) → ((k : ℕ) → k < length ps → s < (get_or ps k blank).stamp) → total (weight s) ps ≡ 0
@@ -60,13 +47,13 @@ leads p (q ∷ l) o w z =
     (λ lt. absurd (omega (arith, w, weight_off p.stamp q (omega arith), light p.stamp q.stamp l (omega arith) a.0))))
     (cases_order q.stamp p.stamp)
 
-pub least_first : (ps : List Pair) (p : Pair) → 0 < length ps → p ≡ get_or ps 0 p → HeapedAt by_stamp blank ps → Apart ps → first (sorted ps) ≡ Some p
-least_first [] p l e h a = absurd (not-suc-le-zero l)
-least_first (q ∷ ps) p l e h a =
+pub least_first : (ps : List Pair) → FirstLeast by_stamp ps → Apart ps → slice_get ps 0 ≡ first (sorted ps)
+least_first [] h a = refl
+least_first (q ∷ ps) h a =
     let s = q.stamp in
     let w : total (weight s) (sorted (q ∷ ps)) ≡ q.packet + 1 = omega (arith, total_sorted (weight s) (q ∷ ps), weight_at s q refl, weightless s ps (omega (arith, a s, hit_at s q refl))) in
     let z : (u : ℕ) → u < s → total (weight u) (sorted (q ∷ ps)) ≡ 0 = λ u b. total_sorted (weight u) (q ∷ ps) ∙ none_below u (q ∷ ps) (λ k f. omega (arith, first_lowest (q ∷ ps) h k f)) in
-    leads q (sorted (q ∷ ps)) (sorted_in_order (q ∷ ps) a) w z ∙ ap Some (sym e)
+    sym (leads q (sorted (q ∷ ps)) (sorted_in_order (q ∷ ps) a) w z)
 
 -- a take
 pub taken_apart : (p : Pair) (ps qs : List Pair) → IsPermutation ps (p ∷ qs) → Apart ps → Apart qs
@@ -82,7 +69,7 @@ pub taken_sorted : (p : Pair) (ps qs : List Pair) → IsPermutation ps (p ∷ qs
 taken_sorted p ps qs h f a = is_rest p (sorted ps) (sorted qs) f (sorted_in_order ps a) (sorted_in_order qs (taken_apart p ps qs h a))
     (λ s. omega (arith, total_sorted (weight s) ps, total_sorted (weight s) qs, total_shuffled (weight s) _ _ h))
 
--- an empty heap
-pub empty_sorted : (ps : List Pair) → length ps ≡ 0 → (ps ≡ []) × (None ≡ first (sorted ps)) × (sorted ps ≡ rest (sorted ps))
-empty_sorted [] e = (refl, refl, refl)
-empty_sorted (p ∷ ps) e = absurd (omega arith)
+-- a take of none
+pub none_taken : (ps qs : List Pair) → None ≡ slice_get ps 0 → qs ≡ ps → sorted qs ≡ rest (sorted ps)
+none_taken [] qs e h = ap sorted h
+none_taken (p ∷ ps) qs e h = absurd (let z : ◌≡◌ {A = ℕ} 0 1 = cc in omega arith)

@@ -9,7 +9,7 @@ loop-i-preserved g c =
     let i = c.loop-i.i in
     let said = c.swap.ensures in
     let in' : i < length c.loop-i.s = c.loop-i.invariant.1 in
-    let t : 0 < i = c.loop-i-test.true in
+    let t : 0 < i = omega arith in
     let s = swap_of said.len said.by_index.0 said.by_index.1 said.by_index.2 in (
       search rules,
       omega (arith, said.len),

@@ -1,5 +1,5 @@
 -- Lists of pairs whose stamps rise: a pair's place among them, and a put. Assumes nothing.
-use Rattle.std.specs.Prelude.{◌≡◌, ℕ, zero, suc, ◌+◌, ◌<◌, ◌≤◌, true, false, List, [], ◌∷◌, length, get_or, ◌==◌, nat_lt, refl}
+use Rattle.std.specs.Prelude.{◌≡◌, ℕ, zero, suc, ◌<◌, ◌≤◌, true, false, List, [], ◌∷◌, length, get_or, ◌==◌, nat_lt, refl}
 use Rattle.std.proofs.Common.{sym, ap, subst, ◌∙◌, not-suc-le-zero, le_of_suc-le-suc, arith}
 use Rattle.std.specs.List.{insert as inserted}
 use Rattle.std.proofs.lemmas.Bool.Decides.{nat_tests}
@@ -69,7 +69,8 @@ found [] i s l e = absurd (not-suc-le-zero l)
 found (q ∷ ps) zero s l e = or_left _ (holds s ps) (eq-eqb s q.stamp e)
 found (q ∷ ps) (suc i) s l e = or_right (s == q.stamp) _ (found ps i s (le_of_suc-le-suc l) e)
 
-above_put : (s : ℕ) (p : Pair) (ps : List Pair) → s < p.stamp → all_above s ps ≡ true → all_above s (insert stamp_of p ps) ≡ true
+-- a put above s
+pub above_put : (s : ℕ) (p : Pair) (ps : List Pair) → s < p.stamp → all_above s ps ≡ true → all_above s (insert stamp_of p ps) ≡ true
 above_put s p [] l h = and_from _ _ (lt-ltb _ _ l) refl
 above_put s p (q ∷ ps) l h =
     let a = and_parts (nat_lt s q.stamp) (all_above s ps) h in
@@ -88,11 +89,6 @@ put_in_order p (q ∷ ps) o f =
   where
     apart : (a b : ℕ) → nat_lt a b ≡ false → (a == b) ≡ false → b < a
     apart a b e f = grind (arith, nat_tests)
-
-pub length_put : (p : Pair) (ps : List Pair) → length (insert stamp_of p ps) ≡ length ps + 1
-length_put p [] = refl
-length_put p (q ∷ ps) = cond_both (nat_lt p.stamp q.stamp) _ _ (λ (ys : List Pair). length ys ≡ suc (length ps) + 1)
-    (λ e. omega arith) (λ e. omega (arith, length_put p ps))
 
 -- the order of a sorted line after a put
 pub put_kept : (p : Pair) (ps ys : List Pair) → ys ≡ insert stamp_of p ps → in_order ps ≡ true → holds p.stamp ps ≡ false → in_order ys ≡ true

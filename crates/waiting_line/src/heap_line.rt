@@ -62,6 +62,7 @@ impl WaitingLine for HeapLine {
 
     ghost fits = { λ l. (l.limit.some, l.limit.few) };
 
+    #[tactic(auto, unfolding(crate::specs::Kept::copies, crate::specs::Kept::sharing))]
     fn make(heap: Global, limit: u64) -> Result<HeapLine, MakeRefusal> {
         let limit = Limit::try_from(limit)?;
         let counts = Counts::zero(heap)?;

@@ -2,7 +2,8 @@ use Rattle.std.proofs.Common.{eqb, ◌∙◌, arith, rules, tests}
 use Rattle.std.proofs.lemmas.Iterator.{YieldsList-from_slice}
 use Rattle.std.proofs.lemmas.Iterator.Search.{any_from_yields_List}
 use Rattle.waiting_line.specs.Kept.{remainder}
-use Rattle.waiting_line.proofs.Sharing.{sharing_none, holds_any}
+use Rattle.waiting_line.specs.Sums.{holds_any}
+use Rattle.waiting_line.proofs.Sharing.{sharing_none}
 use Rattle.waiting_line.proofs.heap_line.HeapLine.has.Goals as goal
 
 pub returns-then-at-gt0 : goal.returns-then-at-gt0

@@ -1,6 +1,6 @@
 use Rattle.std.proofs.Common.{◌<◌, length, arith, rules}
 use Rattle.std.proofs.lemmas.List.Sorted.{IsPermutation-trans}
-use Rattle.heap_order.proofs.Sifting.{swap_of, rises, rests}
+use Rattle.heap_order.proofs.Sifting.{swap_of, rises}
 use Rattle.heap_order.proofs.sift.sift_up.Goals as goal
 
 pub loop-i-preserved : goal.loop-i-preserved
@@ -16,11 +16,3 @@ loop-i-preserved g c =
       IsPermutation-trans _ _ _ c.loop-i.invariant.2 said.permutation,
       rises g.T.TotalOrder.before laws.total laws.transitive _ _ i t in' s c.if-not-precedes_at.ensures c.loop-i.invariant.3,
     )
-
-pub returns-then-not-precedes_at : goal.returns-then-not-precedes_at
-returns-then-not-precedes_at g c =
-    let laws = g.met.T.TotalOrder in
-    record {
-      shuffled = c.loop-i.invariant.2;
-      heaped = rests g.T.TotalOrder.before laws.total laws.transitive _ c.loop-i.i c.if-not-precedes_at.ensures c.loop-i.invariant.3;
-    }

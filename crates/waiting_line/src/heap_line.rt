@@ -18,6 +18,7 @@ use heap_order::vec_heap::Heap;
 use std::alloc::Global;
 use tick_machine::refusal::LineRefusal;
 
+// By the stamp alone, where `Ord` would have to look at the packet too.
 impl TotalOrder for Pair {
     ghost before = { by_stamp };
 

@@ -4,8 +4,7 @@ use lib.ListN.{get_or-append}
 use lib.Seq.{take-append_seam}
 use Rattle.std.specs.List.Sorted.{IsPermutation}
 use Rattle.std.specs.List.{swap_remove}
-use Rattle.std.proofs.Permutation.{taken_first}
-use Rattle.std.proofs.lemmas.List.Sorted.{IsPermutation-trans, IsPermutation-cons}
+use Rattle.std.proofs.lemmas.List.Sorted.{IsPermutation-trans, IsPermutation-cons, IsPermutation-swap_remove}
 use Rattle.heap_order.specs.Heaps.{parent, Heaped, Loose}
 
 -- what a `Vec` holds once a slice of all of it was written
@@ -14,11 +13,9 @@ refilled {X} ws zs n e = subst (λ (m : ℕ). take m (ws ++ zs) ≡ ws) e (take-
 
 -- the first taken, and the others rearranged
 pub taken : {X : Type 0} (xs ys zs : List X) (x : X) → 0 < length xs → x ≡ get_or xs 0 x → ys ≡ swap_remove xs 0 x → IsPermutation ys zs → IsPermutation xs (x ∷ zs)
-taken [] ys zs x l e s h = absurd (omega arith)
-taken {X} (y ∷ t) ys zs x l e s h =
-    let p : IsPermutation t ys = subst (λ (w : List X). IsPermutation t w) (sym s) (taken_first (y ∷ t) x l) in
-    let q : IsPermutation (y ∷ t) (x ∷ ys) = subst (λ (w : X). IsPermutation (y ∷ t) (w ∷ ys)) (sym e) (IsPermutation-cons y t ys p) in
-    IsPermutation-trans (y ∷ t) (x ∷ ys) (x ∷ zs) q (IsPermutation-cons x ys zs h)
+taken {X} xs ys zs x l e s h =
+    let p : IsPermutation xs (x ∷ ys) = subst (λ (w : List X). IsPermutation xs (x ∷ w)) (sym s) (IsPermutation-swap_remove xs 0 x l e) in
+    IsPermutation-trans xs (x ∷ ys) (x ∷ zs) p (IsPermutation-cons x ys zs h)
 
 module _ {X : Type 0} (before : X → X → Bool) where
   by : (a b x y : X) → a ≡ x → b ≡ y → before x y ≡ false → before a b ≡ false

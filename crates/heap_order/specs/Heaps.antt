@@ -5,14 +5,19 @@ use Rattle.std.specs.Prelude.{◌≡◌, ℕ, ◌-◌, ◌/◌, ◌<◌, Bool, f
 abbrev pub parent : ℕ → ℕ
 parent k = (k - 1) / 2
 
+-- what a heap shows: its elements as they lie, and for how many there is memory
+pub record Held (X : Type 0) : Type 0 where
+  pub items : List X
+  pub capacity : ℕ
+
 module _ {X : Type 0} (before : X → X → Bool) where
   -- a heap: no element is before its parent
   abbrev pub Heaped : List X → Type 0
   Heaped xs = (k : ℕ) (d : X) → 0 < k → k < length xs → before (slice_index_or xs k d) (slice_index_or xs (parent k) d) ≡ false
 
-  -- the same with one element d for what stands past the end, as the invariant of a type has it
-  abbrev pub HeapedAt : X → List X → Type 0
-  HeapedAt d xs = (k : ℕ) → 0 < k → k < length xs → before (slice_index_or xs k d) (slice_index_or xs (parent k) d) ≡ false
+  -- no element is before the first
+  abbrev pub FirstLeast : List X → Type 0
+  FirstLeast xs = (k : ℕ) (d : X) → k < length xs → before (slice_index_or xs k d) (slice_index_or xs 0 d) ≡ false
 
   -- no child of the element at j is before the parent of j
   abbrev pub Spanned : List X → ℕ → Type 0

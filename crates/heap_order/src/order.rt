@@ -3,7 +3,8 @@ ghost use Rattle.std.specs.Prelude.{◌≡◌, Bool, true, false};
 
 // A total order on the elements. `before x y` says that x comes strictly before y. Of any two elements at most one is before
 // the other, and "x is not before y" carries on from element to element. So "x is not after y" compares every two elements and
-// is transitive. Two elements neither of which is before the other have equal places, as two of equal key.
+// is transitive. Two elements neither of which is before the other have equal places, as two of equal key. The library's `Ord`
+// asks more, that such two are `==`, so it would have to break the ties that a heap leaves open.
 pub trait TotalOrder {
     ghost before: { Self → Self → Bool };
 

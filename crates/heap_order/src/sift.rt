@@ -5,25 +5,17 @@ ghost use Rattle.heap_order.specs.Heaps.{Heaped, Loose, Heavy, LeastChild, paren
 
 use crate::order::TotalOrder;
 
-// Whether the element at `a` is before the one at `b`.
-fn precedes_at<T: TotalOrder>(s: &[T], a: usize, b: usize) -> bool
-    requires { (a < length s.now) × (b < length s.now) }
-    ensures { (d : T) → T.TotalOrder.before (slice_index_or s.now a d) (slice_index_or s.now b d) ≡ result }
-{
-    s[a].precedes(&s[b])
-}
-
 // Moves the element at `at` up while it is before its parent.
 pub fn sift_up<T: TotalOrder>(s: &mut [T], at: usize)
     requires within { at < length s.old }
-    requires loose { Loose T.TotalOrder.before s.old at }
+    requires loose { Loose T.before s.old at }
     ensures shuffled { IsPermutation s.old s.new }
-    ensures heaped { Heaped T.TotalOrder.before s.new }
+    ensures heaped { Heaped T.before s.new }
 {
     let mut i = at;
     while i > 0 {
         let up = (i - 1) / 2;
-        if !precedes_at(s, i, up) {
+        if !s[i].precedes(&s[up]) {
             return;
         }
         s.swap(up, i);
@@ -35,10 +27,10 @@ pub fn sift_up<T: TotalOrder>(s: &mut [T], at: usize)
 fn least_child<T: TotalOrder>(s: &[T], at: usize) -> usize
     requires { at * 2 + 1 < length s.now }
     ensures child { (0 < result) × (result < length s.now) × (parent result ≡ at) }
-    ensures least { LeastChild T.TotalOrder.before s.now at result }
+    ensures least { LeastChild T.before s.now at result }
 {
     let left = at * 2 + 1;
-    if left + 1 < s.len() && precedes_at(s, left + 1, left) {
+    if left + 1 < s.len() && s[left + 1].precedes(&s[left]) {
         left + 1
     } else {
         left
@@ -47,14 +39,14 @@ fn least_child<T: TotalOrder>(s: &[T], at: usize) -> usize
 
 // Moves the element at `at` down while a child is before it.
 pub fn sift_down<T: TotalOrder>(s: &mut [T], at: usize)
-    requires heavy { Heavy T.TotalOrder.before s.old at }
+    requires heavy { Heavy T.before s.old at }
     ensures shuffled { IsPermutation s.old s.new }
-    ensures heaped { Heaped T.TotalOrder.before s.new }
+    ensures heaped { Heaped T.before s.new }
 {
     let mut i = at;
     while i < s.len() / 2 {
         let child = least_child(s, i);
-        if !precedes_at(s, child, i) {
+        if !s[child].precedes(&s[i]) {
             return;
         }
         s.swap(i, child);

@@ -1,73 +1,95 @@
-// A heap kept in a `Vec` whose memory is reserved: nothing here allocates, and the reserved room stays as it is.
-ghost use Rattle.std.specs.Prelude.{◌≡◌, ◌+◌, ◌<◌, false, [], ◌∷◌, ◌++◌, vec_len, vec_capacity, slice_index_or, slice_set};
+// A heap in memory that is reserved when it is made: nothing after that allocates.
+ghost use Rattle.std.specs.Prelude.{◌≡◌, ◌+◌, ◌-◌, ◌<◌, false, [], ◌∷◌, ◌++◌, length, option_copied, slice_get, slice_index_or, slice_set, IfOk, MatchOption};
 ghost use Rattle.std.specs.List.Sorted.{IsPermutation};
-ghost use Rattle.heap_order.specs.Heaps.{Heaped, Loose, Heavy};
+ghost use Rattle.heap_order.specs.Heaps.{Heaped, FirstLeast};
 
 use crate::order::TotalOrder;
 use crate::sift::{sift_down, sift_up};
+use std::alloc::{AllocError, Global};
+use std::marker::Model;
 
-// Lets the element at `at` rise to its place.
-fn raise<T: TotalOrder>(v: &mut Vec<T>, at: usize)
-    requires within { at < vec_len v.old }
-    requires loose { Loose T.TotalOrder.before v.old.items at }
-    ensures shuffled { IsPermutation v.old.items v.new.items }
-    ensures heaped { Heaped T.TotalOrder.before v.new.items }
-    ensures len { vec_len v.new ≡ vec_len v.old }
-    ensures capacity { vec_capacity v.new ≡ vec_capacity v.old }
-{
-    sift_up(v.as_mut_slice(), at);
+// A contract sees the elements as they lie, and for how many there is memory.
+#[derive(Drop)]
+pub struct Heap<T: TotalOrder> {
+    items: Vec<T>,
 }
 
-// Lets the element at `at` sink to its place, after it was put there in place of one that is not after it.
-pub fn lower<T: TotalOrder>(v: &mut Vec<T>, at: usize)
-    requires heavy { Heavy T.TotalOrder.before v.old.items at }
-    ensures shuffled { IsPermutation v.old.items v.new.items }
-    ensures heaped { Heaped T.TotalOrder.before v.new.items }
-    ensures len { vec_len v.new ≡ vec_len v.old }
-    ensures capacity { vec_capacity v.new ≡ vec_capacity v.old }
-{
-    sift_down(v.as_mut_slice(), at);
+impl<T: TotalOrder> Model for Heap<T> {
+    ghost use Rattle.std.specs.Prelude.{vec_capacity};
+    ghost use Rattle.heap_order.specs.Heaps.{Held, Heaped};
+
+    ghost Value = { Held T };
+
+    ghost view = { λ h. record { items = h.items.items; capacity = vec_capacity h.items } };
+
+    ghost invariant = { λ h. Heaped T.before h.items.items };
 }
 
-// Adds an element. The reserved room has a place for it.
-pub fn push<T: TotalOrder>(v: &mut Vec<T>, x: T)
-    requires room { vec_len v.old < vec_capacity v.old }
-    requires heaped { Heaped T.TotalOrder.before v.old.items }
-    ensures shuffled { IsPermutation (v.old.items ++ x ∷ []) v.new.items }
-    ensures heaped { Heaped T.TotalOrder.before v.new.items }
-    ensures len { vec_len v.new ≡ vec_len v.old + 1 }
-    ensures capacity { vec_capacity v.new ≡ vec_capacity v.old }
-{
-    let at = v.len();
-    v.push_reserved(x);
-    raise(v, at);
+impl<T: TotalOrder> Heap<T> {
+    // An empty heap with memory for so many elements.
+    pub fn with_capacity(heap: Global, capacity: usize) -> Result<Heap<T>, AllocError>
+        ensures empty { IfOk result (λ h. h.items ≡ []) }
+        ensures capacity { IfOk result (λ h. h.capacity ≡ capacity) }
+    {
+        let items = Vec::with_capacity(heap, capacity)?;
+        Ok(Heap { items })
+    }
+
+    pub fn as_slice(&self) -> &[T]
+        ensures value { result.now ≡ self.now.items }
+        ensures len { length result.now ≡ length self.now.items }
+        ensures heaped { Heaped T.before result.now }
+    {
+        self.items.as_slice()
+    }
+
+    // The first, which is the least.
+    pub fn first(&self) -> Option<&T>
+        ensures value { option_copied result ≡ slice_get self.now.items 0 }
+        ensures least { FirstLeast T.before self.now.items }
+    {
+        self.items.first()
+    }
+
+    // Adds an element. There is memory for it.
+    pub fn push(&mut self, x: T)
+        requires room { length self.old.items < self.old.capacity }
+        ensures shuffled { IsPermutation (self.old.items ++ x ∷ []) self.new.items }
+        ensures len { length self.new.items ≡ length self.old.items + 1 }
+        ensures capacity { self.new.capacity ≡ self.old.capacity }
+    {
+        let at = self.items.len();
+        self.items.push_reserved(x);
+        sift_up(self.items.as_mut_slice(), at);
+    }
+
+    // Takes the first, which is the least, if there is one.
+    pub fn take_first(&mut self) -> Option<T>
+        ensures value { result ≡ slice_get self.old.items 0 }
+        ensures least { FirstLeast T.before self.old.items }
+        ensures shuffled { MatchOption result (self.new ≡ self.old) (λ x. IsPermutation self.old.items (x ∷ self.new.items)) }
+        ensures len { length self.new.items ≡ length self.old.items - 1 }
+        ensures capacity { self.new.capacity ≡ self.old.capacity }
+    {
+        if self.items.is_empty() {
+            return None;
+        }
+        let first = self.items.swap_remove(0);
+        sift_down(self.items.as_mut_slice(), 0);
+        Some(first)
+    }
 }
 
-// Takes the first, which is the least.
-pub fn take_first<T: TotalOrder>(v: &mut Vec<T>) -> T
-    requires some { 0 < vec_len v.old }
-    requires heaped { Heaped T.TotalOrder.before v.old.items }
-    ensures value { result ≡ slice_index_or v.old.items 0 result }
-    ensures shuffled { IsPermutation v.old.items (result ∷ v.new.items) }
-    ensures heaped { Heaped T.TotalOrder.before v.new.items }
-    ensures len { vec_len v.new + 1 ≡ vec_len v.old }
-    ensures capacity { vec_capacity v.new ≡ vec_capacity v.old }
-{
-    let first = v.swap_remove(0);
-    lower(v, 0);
-    first
-}
-
-// Puts x in place of the element at `at`, which x is not before.
-pub fn replace<T: TotalOrder + Drop>(v: &mut Vec<T>, at: usize, x: T)
-    requires within { at < vec_len v.old }
-    requires heaped { Heaped T.TotalOrder.before v.old.items }
-    requires later { (d : T) → T.TotalOrder.before x (slice_index_or v.old.items at d) ≡ false }
-    ensures shuffled { IsPermutation (slice_set v.old.items at x) v.new.items }
-    ensures heaped { Heaped T.TotalOrder.before v.new.items }
-    ensures len { vec_len v.new ≡ vec_len v.old }
-    ensures capacity { vec_capacity v.new ≡ vec_capacity v.old }
-{
-    v[at] = x;
-    lower(v, at);
+impl<T: TotalOrder + Drop> Heap<T> {
+    // Puts x in place of the element at `at`, which x is not before.
+    pub fn replace(&mut self, at: usize, x: T)
+        requires within { at < length self.old.items }
+        requires later { (d : T) → T.before x (slice_index_or self.old.items at d) ≡ false }
+        ensures shuffled { IsPermutation (slice_set self.old.items at x) self.new.items }
+        ensures len { length self.new.items ≡ length self.old.items }
+        ensures capacity { self.new.capacity ≡ self.old.capacity }
+    {
+        self.items[at] = x;
+        sift_down(self.items.as_mut_slice(), at);
+    }
 }

@@ -1,3 +1,3 @@
 pub mod Heaps
-pub mod Puts
-pub mod Counts
+pub mod Sharing
+pub mod Searches

@@ -1,6 +1,6 @@
 -- How the two lines keep their pairs. Assumes nothing.
-use Rattle.std.specs.Prelude.{ℕ, ◌%◌, Bool, true, ◌&&◌, List, [], ◌∷◌, ◌==◌, nat_lt}
-use Rattle.tick_machine.specs.Lists.{total, only, insert}
+use Rattle.std.specs.Prelude.{ℕ, ◌%◌, Bool, true, ◌&&◌, List, [], ◌∷◌, count_by, ◌==◌, nat_lt}
+use Rattle.tick_machine.specs.Lists.{insert}
 use Rattle.waiting_line.specs.declared.pair.Pair.{Pair}
 use Rattle.waiting_line.specs.Lines.{stamp_of}
 
@@ -28,13 +28,13 @@ sorted [] = []
 sorted (p ∷ ps) = insert stamp_of p (sorted ps)
 
 -- how many pairs have the stamp
-abbrev pub copies : ℕ → List Pair → ℕ
-copies s ps = total (λ p. only (s == p.stamp) 1) ps
+unfoldable pub copies : ℕ → List Pair → ℕ
+copies s ps = count_by (λ p. s == p.stamp) ps
 
 -- the remainder by which a stamp is counted
 abbrev pub remainder : ℕ → ℕ
 remainder s = s % 8191
 
 -- how many pairs have a stamp with that remainder
-abbrev pub sharing : ℕ → List Pair → ℕ
-sharing r ps = total (λ p. only (r == remainder p.stamp) 1) ps
+unfoldable pub sharing : ℕ → List Pair → ℕ
+sharing r ps = count_by (λ p. r == remainder p.stamp) ps

@@ -3,7 +3,9 @@
 
 #![tactic(auto)]
 
+mod counts;
 pub mod heap_line;
+mod limit;
 pub mod line;
 pub mod pair;
 pub mod refusal;

@@ -1,6 +1,9 @@
 // Why no line is made.
 ghost use Rattle.std.specs.Prelude.{◌≡◌};
 ghost use Rattle.waiting_line.specs.Lines.{make_number};
+ghost use Rattle.waiting_line.specs.declared.refusal.MakeRefusal.TheVariants.{NoMemory};
+
+use std::alloc::AllocError;
 
 #[derive(Clone, Copy, PartialEq, Eq, Debug)]
 pub enum MakeRefusal {
@@ -8,6 +11,14 @@ pub enum MakeRefusal {
     Capacity,
     // the memory for that many pairs cannot be had
     NoMemory,
+}
+
+impl From<AllocError> for MakeRefusal {
+    ghost from_gives = { λ _ r. r ≡ NoMemory };
+
+    fn from(_: AllocError) -> Self {
+        Self::NoMemory
+    }
 }
 
 impl MakeRefusal {

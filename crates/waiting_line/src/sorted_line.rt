@@ -1,14 +1,15 @@
 // A line in a vector, by rising stamps. A put finds its place by halving, O(log n) comparisons, and moves what stands after it
 // as one block; a take moves the others down as one block. Its memory is reserved when it is made.
-ghost use Rattle.std.specs.Prelude.{◌≡◌, ℕ, ◌<◌, ◌≤◌, true, false, vec_len, vec_capacity, MatchResult, slice_index_or};
+ghost use Rattle.std.specs.Prelude.{◌≡◌, ◌≤◌, true, false, vec_len, vec_capacity, MatchResult};
 ghost use Rattle.std.specs.List.{insert};
 ghost use Rattle.tick_machine.specs.Lists.{insert as insertion};
 ghost use Rattle.tick_machine.specs.declared.refusal.LineRefusal.TheVariants.{Twice};
 ghost use Rattle.waiting_line.specs.Lines.{stamp_of, holds};
-ghost use Rattle.waiting_line.specs.Kept.{blank, in_order};
+ghost use Rattle.waiting_line.specs.Kept.{in_order};
 ghost use Rattle.waiting_line.specs.Orders.{order_rises};
 ghost use Rattle.std.proofs.Common.{rules, arith};
 
+use crate::limit::Limit;
 use crate::line::WaitingLine;
 use crate::pair::Pair;
 use crate::refusal::MakeRefusal;
@@ -18,82 +19,54 @@ use tick_machine::refusal::LineRefusal;
 #[derive(Drop)]
 pub struct SortedLine {
     items: Vec<Pair>,
-    limit: u64,
+    limit: Limit,
     ghost rising: { in_order items.items ≡ true },
-    ghost reserved: { limit ≤ vec_capacity items },
-    ghost inside: { vec_len items ≤ limit },
-    ghost some: { 1 ≤ limit },
-    ghost few: { limit ≤ 1024 },
+    ghost reserved: { limit.most ≤ vec_capacity items },
+    ghost inside: { vec_len items ≤ limit.most },
 }
 
 impl SortedLine {
-    // How many pairs have a stamp below the one given: they stand first.
-    fn below(&self, stamp: u64) -> usize
-        ensures within { result ≤ vec_len self.now.items }
-        ensures before { (k : ℕ) → k < result → (slice_index_or self.now.items.items k blank).stamp < stamp }
-        ensures behind { (k : ℕ) → result ≤ k → k < vec_len self.now.items → stamp ≤ (slice_index_or self.now.items.items k blank).stamp }
-    {
-        let mut low = 0;
-        let mut high = self.items.len();
-        while low < high {
-            let middle = low + (high - low) / 2;
-            if self.items[middle].stamp < stamp {
-                low = middle + 1;
-            } else {
-                high = middle;
-            }
-        }
-        low
-    }
-
     // Where a pair goes, unless its stamp is there already.
     fn place(&self, pair: Pair) -> Result<usize, LineRefusal>
         ensures { MatchResult result (λ i. (i ≤ vec_len self.now.items) × (holds pair.stamp self.now.items.items ≡ false) × (insert self.now.items.items i pair ≡ insertion stamp_of pair self.now.items.items)) (λ e. (e ≡ Twice) × (holds pair.stamp self.now.items.items ≡ true)) }
     {
-        let at = self.below(pair.stamp);
-        if at < self.items.len() && self.items[at].stamp == pair.stamp {
-            return Err(LineRefusal::Twice);
+        match self
+            .items
+            .binary_search_by_key(&pair.stamp, |other| other.stamp)
+        {
+            Ok(_) => Err(LineRefusal::Twice),
+            Err(at) => Ok(at),
         }
-        Ok(at)
     }
 }
 
 impl WaitingLine for SortedLine {
     ghost pairs = { λ l. l.items.items };
 
-    ghost capacity = { λ l. l.limit };
+    ghost capacity = { λ l. l.limit.most };
 
     ghost rising = { λ l. order_rises l.items.items l.rising };
 
-    ghost within = { first_of (Prim.search rules, Prim.grind (arith, Self.row.coded.inj)) };
+    ghost within = { λ l. omega (arith, l.items.ok) };
 
-    ghost fits = { first_of (Prim.search rules, Prim.grind (arith, Self.row.coded.inj)) };
+    ghost fits = { λ l. (l.limit.some, l.limit.few) };
 
     fn make(heap: Global, limit: u64) -> Result<SortedLine, MakeRefusal> {
-        if limit < 1 || limit > 1024 {
-            return Err(MakeRefusal::Capacity);
-        }
-        match Vec::with_capacity(heap, limit as usize) {
-            Ok(items) => Ok(SortedLine { items, limit }),
-            Err(_) => Err(MakeRefusal::NoMemory),
-        }
+        let limit = Limit::try_from(limit)?;
+        let items = Vec::with_capacity(heap, limit.places())?;
+        Ok(SortedLine { items, limit })
     }
 
     fn room(&self) -> Result<(), LineRefusal> {
-        if self.size() < self.limit {
-            Ok(())
-        } else {
-            Err(LineRefusal::Full)
-        }
+        self.limit.room(self.size())
     }
 
+    #[tactic(auto, using(crate::specs::Orders::put_kept))]
     fn put(&mut self, pair: Pair) -> Result<(), LineRefusal> {
         self.room()?;
         let at = self.place(pair)?;
-        match self.items.insert(at, pair) {
-            Ok(()) => Ok(()),
-            Err(_) => unreachable(),
-        }
+        self.items.insert(at, pair).unwrap();
+        Ok(())
     }
 
     fn least(&self) -> Option<Pair> {

@@ -1,6 +1,8 @@
-use Rattle.std.proofs.Common.{◌<◌, length, arith, rules}
+use Rattle.std.proofs.Common.{◌≡◌, ◌<◌, true, length, arith, rules}
+use Rattle.std.proofs.lemmas.List.Elements.{pair_read}
 use Rattle.std.proofs.lemmas.List.Sorted.{IsPermutation-trans}
-use Rattle.heap_order.proofs.Sifting.{swap_of, rises, rests}
+use Rattle.heap_order.specs.Heaps.{parent}
+use Rattle.heap_order.proofs.Sifting.{swap_of, rises}
 use Rattle.heap_order.proofs.sift.sift_up.Goals as goal
 
 pub loop-i-preserved : goal.loop-i-preserved
@@ -9,18 +11,11 @@ loop-i-preserved g c =
     let i = c.loop-i.i in
     let said = c.swap.ensures in
     let in' : i < length c.loop-i.s = c.loop-i.invariant.1 in
-    let t : 0 < i = c.loop-i-test.true in
+    let t : 0 < i = omega arith in
+    let first = pair_read c.loop-i.s (λ x y. g.T.TotalOrder.before x y ≡ true) i (parent i) _ _ in' (omega arith) c.index-s-i.is c.index-s-up.is (search rules) in
     let s = swap_of said.len said.by_index.0 said.by_index.1 said.by_index.2 in (
       search rules,
       omega (arith, said.len),
       IsPermutation-trans _ _ _ c.loop-i.invariant.2 said.permutation,
-      rises g.T.TotalOrder.before laws.total laws.transitive _ _ i t in' s c.if-not-precedes_at.ensures c.loop-i.invariant.3,
+      rises g.T.TotalOrder.before laws.total laws.transitive _ _ i t in' s first c.loop-i.invariant.3,
     )
-
-pub returns-then-not-precedes_at : goal.returns-then-not-precedes_at
-returns-then-not-precedes_at g c =
-    let laws = g.met.T.TotalOrder in
-    record {
-      shuffled = c.loop-i.invariant.2;
-      heaped = rests g.T.TotalOrder.before laws.total laws.transitive _ c.loop-i.i c.if-not-precedes_at.ensures c.loop-i.invariant.3;
-    }

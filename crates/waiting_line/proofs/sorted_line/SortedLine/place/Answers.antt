@@ -1,26 +1,23 @@
-use Rattle.std.proofs.Common.{◌≡◌, ◌<◌, ◌≤◌, length, get_or, vec_items, refl, arith, rules}
-use Rattle.waiting_line.specs.Kept.{blank}
-use Rattle.waiting_line.specs.Orders.{placed, fresh, found, read_at}
+use Rattle.std.proofs.Common.{◌≤◌, length, refl, rules}
+use Rattle.std.proofs.lemmas.List.Sorted.{answers_always}
+use Rattle.waiting_line.specs.Orders.{placed, fresh}
+use Rattle.waiting_line.proofs.Searches.{found_there, less_before, more_behind}
 use Rattle.waiting_line.proofs.sorted_line.SortedLine.place.Goals as goal
-use Rattle.waiting_line.proofs.sorted_line.SortedLine.place.Goals.{else-at-len-via-then-at-len+else-index-pair, else-at-len-via-else-at-len}
 
-pub returns-then-index-pair : goal.returns-then-index-pair
-returns-then-index-pair c =
-    let xs = vec_items c.args.self.now.items in
-    let i = c.below-at.result in
-    let l : i < length xs = search rules in
-    let e : c.args.pair.stamp ≡ (get_or xs i blank).stamp = omega (arith, read_at xs i _ l c.index.ensures, c.if-index-pair.true) in
-    (refl, found xs i c.args.pair.stamp l e)
+pub returns-in-Ok : goal.returns-in-Ok
+returns-in-Ok c =
+    let self = c.args.self.now in
+    let told = rw c.deref.ensures.value at c.in-Ok.ensures.position (λ p. p.stamp) (answers_always _ _ _ (λ f a r g called. search rules)) in
+    (refl, found_there self.items.items self.rising c.args.pair.stamp c.in-Ok.field-0 (search rules) told)
 
-pub returns : goal.returns
-returns c =
-    let xs = vec_items c.args.self.now.items in
-    let i = c.below-at.result in
+pub returns-in-Err : goal.returns-in-Err
+returns-in-Err c =
+    let self = c.args.self.now in
+    let ps = self.items.items in
     let p = c.args.pair in
-    let le : i ≤ length xs = search rules in
-    let hi : i < length xs → p.stamp < (get_or xs i blank).stamp =
-    elim c.else-at-len.branch [
-      | else-at-len-via-then-at-len+else-index-pair w ↦ λ l. omega (arith, read_at xs i _ l w.index.ensures, w.if-index-pair.false, c.below-at.ensures.behind i (omega arith) (search rules))
-      | else-at-len-via-else-at-len w ↦ λ l. absurd (omega (arith, w.if-at-len.false))
-    ] in
-    (search rules, fresh xs i p.stamp le c.args.self.now.rising c.below-at.ensures.before hi, placed xs i p le c.below-at.ensures.before hi)
+    let i = c.in-Err.at in
+    let told = rw c.deref.ensures.value at c.in-Err.ensures.position (λ p. p.stamp) (answers_always _ _ _ (λ f a r g called. search rules)) in
+    let within : i ≤ length ps = search rules in
+    let less = less_before ps self.rising p.stamp i within told in
+    let more = more_behind ps self.rising p.stamp i told in
+    (search rules, fresh ps i p.stamp within self.rising less more, placed ps i p within less more)

@@ -5,22 +5,17 @@ ghost use Rattle.history_text.specs.Causes.{cause_number};
 #[derive(Clone, Copy, PartialEq, Eq, Debug)]
 pub enum Cause {
     // unknown word, word out of turn, wrong number of fields, no such number
-    Unknown,
-    Untimely,
-    Miscounted,
-    NoNumber,
+    Unknown = 61,
+    Untimely = 62,
+    Miscounted = 63,
+    NoNumber = 64,
 }
 
 impl Cause {
     pub fn number(self) -> u64
         ensures { result ≡ cause_number self }
     {
-        match self {
-            Cause::Unknown => 61,
-            Cause::Untimely => 62,
-            Cause::Miscounted => 63,
-            Cause::NoNumber => 64,
-        }
+        self as u64
     }
 }
 

@@ -1,6 +1,4 @@
 // Commands at an open link.
-ghost use Rattle.std.specs.Prelude.{◌≡◌};
-ghost use Rattle.tick_machine.specs.Life.{granted};
 ghost use Rattle.history_reply.specs.Stages.{Stage, obey};
 ghost use Rattle.history_text.specs.declared.commands.Command.TheVariants as command;
 ghost use Rattle.history.specs.Standing.{AtLink, Went, settlement_of};
@@ -13,15 +11,6 @@ use link::answers::{of_arrival, of_figures, of_move};
 use slot_clock::clock::SlotClock;
 use tick_machine::call::{Answer, Settlement};
 use waiting_line::line::WaitingLine;
-
-fn granted(how: Settlement, number: u64) -> Answer
-    ensures { result ≡ granted how number }
-{
-    match how {
-        Settlement::File => Answer::Filed(number),
-        Settlement::Return => Answer::Returned(number),
-    }
-}
 
 impl<W: WaitingLine, S: SlotClock> OpenLink<W, S> {
     // Hands out a slip, if none is in hand.
@@ -55,7 +44,7 @@ impl<W: WaitingLine, S: SlotClock> OpenLink<W, S> {
             Some(slip) => match link.settle(slip, how) {
                 Ok(number) => (
                     OpenLink { link, hand: None },
-                    Reply::Answer(granted(how, number)),
+                    Reply::Answer(how.granted(number)),
                 ),
                 Err((e, kept)) => (
                     OpenLink {

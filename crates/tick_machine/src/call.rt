@@ -1,4 +1,7 @@
 // What a making takes, the calls of an open link, and every answer in a link's life.
+ghost use Rattle.std.specs.Prelude.{◌≡◌};
+ghost use Rattle.tick_machine.specs.Life.{granted as granted_of};
+
 use crate::packet::SlipCopy;
 use crate::refusal::Refusal;
 
@@ -70,4 +73,16 @@ pub enum Answer {
     FiguresAre(Figures),
     TotalsAre(Totals),
     Refused(Refusal),
+}
+
+impl Settlement {
+    // What is answered where the packet is settled so.
+    pub fn granted(self, packet: u64) -> Answer
+        ensures { result ≡ granted_of self packet }
+    {
+        match self {
+            Settlement::File => Answer::Filed(packet),
+            Settlement::Return => Answer::Returned(packet),
+        }
+    }
 }

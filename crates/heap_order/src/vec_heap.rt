@@ -27,11 +27,11 @@ impl<T: TotalOrder> Model for Heap<T> {
 
 impl<T: TotalOrder> Heap<T> {
     // An empty heap with memory for so many elements.
-    pub fn with_capacity(heap: Global, capacity: usize) -> Result<Heap<T>, AllocError>
+    pub fn with_capacity(alloc: Global, capacity: usize) -> Result<Heap<T>, AllocError>
         ensures empty { IfOk result (λ h. h.items ≡ []) }
         ensures capacity { IfOk result (λ h. h.capacity ≡ capacity) }
     {
-        let items = Vec::with_capacity(heap, capacity)?;
+        let items = Vec::with_capacity(alloc, capacity)?;
         Ok(Heap { items })
     }
 
@@ -40,7 +40,7 @@ impl<T: TotalOrder> Heap<T> {
         ensures len { length result.now ≡ length self.now.items }
         ensures heaped { Heaped T.before result.now }
     {
-        self.items.as_slice()
+        &self.items
     }
 
     // The first, which is the least.
@@ -60,7 +60,7 @@ impl<T: TotalOrder> Heap<T> {
     {
         let at = self.items.len();
         self.items.push_reserved(x);
-        sift_up(self.items.as_mut_slice(), at);
+        sift_up(&mut self.items, at);
     }
 
     // Takes the first, which is the least, if there is one.
@@ -75,7 +75,7 @@ impl<T: TotalOrder> Heap<T> {
             return None;
         }
         let first = self.items.swap_remove(0);
-        sift_down(self.items.as_mut_slice(), 0);
+        sift_down(&mut self.items, 0);
         Some(first)
     }
 }
@@ -90,6 +90,6 @@ impl<T: TotalOrder + Drop> Heap<T> {
         ensures capacity { self.new.capacity ≡ self.old.capacity }
     {
         self.items[at] = x;
-        sift_down(self.items.as_mut_slice(), at);
+        sift_down(&mut self.items, at);
     }
 }

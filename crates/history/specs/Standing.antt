@@ -5,16 +5,12 @@ use Rattle.tick_machine.specs.declared.packet.SlipCopy.{SlipCopy}
 use Rattle.tick_machine.specs.declared.call.Call.{Call}
 use Rattle.tick_machine.specs.Machine.{Config, Machine}
 use Rattle.tick_machine.specs.Life.{after, settlement}
-use Rattle.tick_machine.specs.declared.call.Settlement.{Settlement}
-use Rattle.tick_machine.specs.declared.call.Settlement.TheVariants as how
 use Rattle.waiting_line.specs.declared.line.WaitingLine.{Ghosts as WaitingLine}
 use Rattle.slot_clock.specs.declared.clock.SlotClock.{Ghosts as SlotClock}
 use Rattle.link.specs.declared.slip.Slip.{Slip}
 use Rattle.link.specs.declared.draft.Draft.{Draft}
 use Rattle.link.specs.Promise.{Led}
 use Rattle.link.specs.Drafting.{Drafts}
-use Rattle.history_text.specs.declared.commands.Command.{Command}
-use Rattle.history_text.specs.declared.commands.Command.TheVariants as command
 use Rattle.history_reply.specs.declared.replies.Reply.{Reply}
 use Rattle.history_reply.specs.Stages.{Stage, before, draft, running, Turn}
 use Rattle.history.specs.declared.clerk.OpenLink.{OpenLink}
@@ -29,11 +25,6 @@ copied hand = option_map (λ s. s.says) hand
 abbrev pub Out : Config → Machine → Option SlipCopy → Type 0
 Out c m None = Unit {0}
 Out c m (Some s) = settlement c s.link s.packet m ≡ Ok s.packet
-
--- the command that asks for a settlement so
-abbrev pub settlement_of : Settlement → Command
-settlement_of how.File = command.File
-settlement_of how.Return = command.Return
 
 -- a turn was taken so
 pub record Went {C : Type 0} (stands : Stage → C → Type 0) (t : Turn) (next : C) (reply : Reply) : Type 0 where

@@ -1,7 +1,7 @@
 // Commands at an open link.
 ghost use Rattle.history_reply.specs.Stages.{Stage, obey};
 ghost use Rattle.history_text.specs.declared.commands.Command.TheVariants as command;
-ghost use Rattle.history.specs.Standing.{AtLink, Went, settlement_of};
+ghost use Rattle.history.specs.Standing.{AtLink, Went};
 
 use crate::clerk::OpenLink;
 use crate::untimely::untimely;
@@ -36,7 +36,7 @@ impl<W: WaitingLine, S: SlotClock> OpenLink<W, S> {
 
     // Settles the packet of the slip in hand.
     fn settle(self, how: Settlement, n: u64) -> (Self, Reply)
-        ensures { (s : Stage) → AtLink W.WaitingLine S.SlotClock s self → Went (AtLink W.WaitingLine S.SlotClock) (obey n s (settlement_of how)) result.0 result.1 }
+        ensures { (s : Stage) → AtLink W.WaitingLine S.SlotClock s self → Went (AtLink W.WaitingLine S.SlotClock) (obey n s (command.Settle how)) result.0 result.1 }
     {
         let OpenLink { mut link, hand } = self;
         match hand {
@@ -79,8 +79,7 @@ impl<W: WaitingLine, S: SlotClock> OpenLink<W, S> {
                 (self, Reply::Answer(answer))
             }
             Command::Take => self.take(n),
-            Command::File => self.settle(Settlement::File, n),
-            Command::Return => self.settle(Settlement::Return, n),
+            Command::Settle(how) => self.settle(how, n),
             _ => (self, untimely(n)),
         }
     }

@@ -14,7 +14,7 @@ use link::draft::Draft;
 use link::error::MakeError;
 use slot_clock::clock::SlotClock;
 use std::alloc::{AllocError, Global};
-use tick_machine::call::{Answer, Making};
+use tick_machine::call::Answer;
 use waiting_line::line::WaitingLine;
 
 // Only a link can be made.
@@ -25,19 +25,13 @@ pub fn begin<W: WaitingLine + Drop, S: SlotClock>(
 ) -> (LinkClerk<W, S>, Result<Reply, AllocError>)
     ensures { Obeyed (Stands W.WaitingLine S.SlotClock) before (obey n before command) result.0 result.1 }
 {
-    let Command::Make(number, largest, capacity, weight) = command else {
+    let Command::Make(making) = command else {
         return (LinkClerk::Before, Ok(untimely(n)));
-    };
-    let making = Making {
-        number,
-        largest,
-        capacity,
-        weight,
     };
     match Draft::<W>::make(heap, making) {
         Ok(made) => (
             LinkClerk::Drafting(made),
-            Ok(Reply::Answer(Answer::Made(number))),
+            Ok(Reply::Answer(Answer::Made(making.number))),
         ),
         Err(MakeError::Refused(e)) => (LinkClerk::Before, Ok(Reply::Answer(Answer::Refused(e)))),
         Err(MakeError::NoMemory(e)) => (LinkClerk::Before, Err(e)),

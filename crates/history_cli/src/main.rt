@@ -7,13 +7,14 @@ mod parts;
 mod printed;
 
 use anyhow::anyhow;
+use history_lines::lines::LONGEST;
 use parts::Parts;
 use printed::run_with;
 use std::env;
 use std::io::Read;
 
 // One byte more than is answered tells an input that is too long.
-const LOOKED_AT: u64 = 65537;
+const LOOKED_AT: u64 = LONGEST as u64 + 1;
 
 fn chosen(rt: &HostRuntime) -> anyhow::Result<Parts> {
     match env::args(rt)?.nth(1) {

@@ -11,7 +11,8 @@ use history_text::cuts::Parts;
 use history_text::reading::read;
 use std::alloc::{AllocError, Global};
 
-const LONGEST: usize = 65536;
+// No more bytes are answered.
+pub const LONGEST: usize = 65536;
 
 // The answer to line n.
 fn answer_line<C: Clerk>(
@@ -27,10 +28,7 @@ fn answer_line<C: Clerk>(
         return (clerk, Ok(()));
     }
     match read(clerk.phase(), line) {
-        Err(fault) => (
-            clerk,
-            put_reply(heap, out, Reply::Fault(fault.cause, n, fault.byte)),
-        ),
+        Err(fault) => (clerk, put_reply(heap, out, Reply::Fault(n, fault))),
         Ok(command) => {
             let (next, answer) = clerk.obey(heap, n, command);
 

@@ -41,7 +41,7 @@ answer_text a = phrase (answer_word a) (values a)
 
 -- a fault tells its cause, the line and the byte; an input that is too long, 60 and two zeros
 abbrev pub spoken : Reply → List ℕ
-spoken (reply.Fault cause line byte) = phrase (codes "text") (pos (cause_number cause) ∷ pos line ∷ pos byte ∷ [])
+spoken (reply.Fault line f) = phrase (codes "text") (pos (cause_number f.cause) ∷ pos line ∷ pos f.byte ∷ [])
 spoken reply.TooLong = phrase (codes "text") (pos 60 ∷ pos 0 ∷ pos 0 ∷ [])
 spoken (reply.Answer a) = answer_text a
 

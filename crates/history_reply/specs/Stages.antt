@@ -8,7 +8,7 @@ use Rattle.tick_machine.specs.declared.call.Answer.{Answer}
 use Rattle.tick_machine.specs.declared.call.Answer.TheVariants.{Made, Added, Opened, Accepted, Moved, Collected, Filed, Returned, FiguresAre, TotalsAre, Refused}
 use Rattle.tick_machine.specs.Slots.{round_length}
 use Rattle.tick_machine.specs.Machine.{Config, Machine, opened}
-use Rattle.tick_machine.specs.Life.{made, adding, added, told, respond}
+use Rattle.tick_machine.specs.Life.{made, adding, added, settling as settled_by, told, respond}
 use Rattle.history_text.specs.declared.commands.Phase.{Phase}
 use Rattle.history_text.specs.declared.commands.Phase.TheVariants as phase
 use Rattle.history_text.specs.declared.commands.Command.{Command}
@@ -39,7 +39,7 @@ pub record Turn : Type 0 where
 
 -- a word out of turn on line n changes nothing; the reader of lines lets no such command through
 abbrev pub untimely : ℕ → Stage → Turn
-untimely n s = record { says = reply.Fault Untimely n 1; next = s }
+untimely n s = record { says = reply.Fault n (record { cause = Untimely; byte = 1 }); next = s }
 
 -- an accepted `link` makes a draft
 abbrev pub making : Result Config Refusal → Turn
@@ -47,7 +47,7 @@ making (Ok c) = record { says = reply.Answer (Made c.link); next = draft c }
 making (Err e) = record { says = reply.Answer (Refused e); next = before }
 
 abbrev pub at_start : ℕ → Command → Turn
-at_start n (command.Make link largest capacity weight) = making (made link largest capacity weight)
+at_start n (command.Make m) = making (made m.number m.largest m.capacity m.weight)
 at_start n (command.Add weight) = untimely n before
 at_start n command.Open = untimely n before
 at_start n (command.Arrive i size tag) = untimely n before
@@ -55,11 +55,10 @@ at_start n (command.MoveTo t) = untimely n before
 at_start n (command.AskFigures i) = untimely n before
 at_start n command.AskTotals = untimely n before
 at_start n command.Take = untimely n before
-at_start n command.File = untimely n before
-at_start n command.Return = untimely n before
+at_start n (command.Settle how) = untimely n before
 
 abbrev pub at_draft : ℕ → Config → Command → Turn
-at_draft n c (command.Make link largest capacity weight) = untimely n (draft c)
+at_draft n c (command.Make m) = untimely n (draft c)
 at_draft n c (command.Add weight) = record { says = reply.Answer (told Added (adding c weight)); next = draft (added c weight) }
 at_draft n c command.Open = record { says = reply.Answer (Opened (round_length c.weights)); next = running c (opened c) None }
 at_draft n c (command.Arrive i size tag) = untimely n (draft c)
@@ -67,8 +66,7 @@ at_draft n c (command.MoveTo t) = untimely n (draft c)
 at_draft n c (command.AskFigures i) = untimely n (draft c)
 at_draft n c command.AskTotals = untimely n (draft c)
 at_draft n c command.Take = untimely n (draft c)
-at_draft n c command.File = untimely n (draft c)
-at_draft n c command.Return = untimely n (draft c)
+at_draft n c (command.Settle how) = untimely n (draft c)
 
 -- a call of the open link, after which this is in hand
 abbrev pub calling : Config → Machine → Option SlipCopy → Call → Turn
@@ -111,7 +109,7 @@ settling way n c m None = untimely n (running c m None)
 settling way n c m (Some s) = calling c m (kept s (respond c m (way s.link s.packet)).1) (way s.link s.packet)
 
 abbrev pub at_link : ℕ → Config → Machine → Option SlipCopy → Command → Turn
-at_link n c m hand (command.Make link largest capacity weight) = untimely n (running c m hand)
+at_link n c m hand (command.Make x) = untimely n (running c m hand)
 at_link n c m hand (command.Add weight) = untimely n (running c m hand)
 at_link n c m hand command.Open = untimely n (running c m hand)
 at_link n c m hand (command.Arrive i size tag) = calling c m hand (call.Arrive i size tag)
@@ -119,8 +117,7 @@ at_link n c m hand (command.MoveTo t) = calling c m hand (call.MoveTo t)
 at_link n c m hand (command.AskFigures i) = calling c m hand (call.AskFigures i)
 at_link n c m hand command.AskTotals = calling c m hand call.AskTotals
 at_link n c m hand command.Take = taking n c m hand
-at_link n c m hand command.File = settling call.File n c m hand
-at_link n c m hand command.Return = settling call.Return n c m hand
+at_link n c m hand (command.Settle how) = settling (settled_by how) n c m hand
 
 -- what the command of line n does at a stage
 abbrev pub obey : ℕ → Stage → Command → Turn

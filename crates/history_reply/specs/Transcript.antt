@@ -15,7 +15,7 @@ use Rattle.history_reply.specs.Stages.{Stage, before, draft, running, phase_of, 
 -- a line is faulty, or its command is obeyed
 abbrev pub answered : ℕ → Stage → Result Command Fault → Turn
 answered n s (Ok x) = obey n s x
-answered n s (Err f) = record { says = reply.Fault f.cause n f.byte; next = s }
+answered n s (Err f) = record { says = reply.Fault n f; next = s }
 
 abbrev pub turn : ℕ → Stage → List ℕ → Turn
 turn n s line = answered n s (reading (phase_of s) (cut 32 line))

@@ -3,6 +3,7 @@ ghost use Rattle.std.specs.Prelude.{◌≡◌, ◌++◌, Some, string_bytes, Mat
 ghost use Rattle.history_reply.specs.Replies.{answer_text, spoken, line_of};
 
 use crate::replies::{Reply, Said};
+use history_text::faults::Fault;
 use std::alloc::{AllocError, Global};
 use std::fmt;
 use tick_machine::call::Answer;
@@ -51,7 +52,7 @@ impl fmt::Display for Reply {
 
     fn fmt<W: fmt::Write>(&self, f: &mut fmt::Formatter<W>) -> fmt::Result {
         match *self {
-            Reply::Fault(cause, line, byte) => {
+            Reply::Fault(line, Fault { cause, byte }) => {
                 write!(f, "text {} {line} {byte}", cause.number())
             }
             Reply::TooLong => write!(f, "text 60 0 0"),

@@ -1,11 +1,11 @@
 // What a line is answered.
-use history_text::faults::Cause;
+use history_text::faults::Fault;
 use tick_machine::call::Answer;
 
-// A fault, with its line and byte, each counted from 1; an input that is too long; or the link's answer.
+// A fault in a line, which is counted from 1; an input that is too long; or the link's answer.
 #[derive(Clone, Copy, PartialEq, Eq, Debug)]
 pub enum Reply {
-    Fault(Cause, u64, usize),
+    Fault(u64, Fault),
     TooLong,
     Answer(Answer),
 }

@@ -1,6 +1,7 @@
 -- What the fields of a line ask for, or what is wrong with them. The tests run in the order of the causes: an unknown word, a word out of
 -- turn, a wrong number of fields, a field that is no number. Assumes nothing.
 use Rattle.std.specs.Prelude.{ℕ, ◌+◌, Bool, true, false, cond, List, [], ◌∷◌, length, Some, None, Ok, Err, Option, Result, ◌==◌, slice_index}
+use Rattle.tick_machine.specs.declared.call.Settlement.TheVariants as how
 use Rattle.history_text.specs.declared.words.Word.{Word}
 use Rattle.history_text.specs.declared.words.Word.TheVariants.{Link, Sess, Open, Arr, At, Figs, Tots, Take, Filed, Back}
 use Rattle.history_text.specs.declared.commands.Phase.{Phase}
@@ -80,7 +81,7 @@ numbers at (f ∷ fs) = joined at (numeral f) (numbers (at + (length f + 1)) fs)
 
 -- the command of a word with its numbers
 abbrev pub command_of : Word → List ℕ → Command
-command_of Link ns = command.Make (slice_index ns 0) (slice_index ns 1) (slice_index ns 2) (slice_index ns 3)
+command_of Link ns = command.Make (record { number = slice_index ns 0; largest = slice_index ns 1; capacity = slice_index ns 2; weight = slice_index ns 3 })
 command_of Sess ns = command.Add (slice_index ns 0)
 command_of Open ns = command.Open
 command_of Arr ns = command.Arrive (slice_index ns 0) (slice_index ns 1) (slice_index ns 2)
@@ -88,8 +89,8 @@ command_of At ns = command.MoveTo (slice_index ns 0)
 command_of Figs ns = command.AskFigures (slice_index ns 0)
 command_of Tots ns = command.AskTotals
 command_of Take ns = command.Take
-command_of Filed ns = command.File
-command_of Back ns = command.Return
+command_of Filed ns = command.Settle how.File
+command_of Back ns = command.Settle how.Return
 
 abbrev pub commanded : Word → Result (List ℕ) Fault → Result Command Fault
 commanded w (Ok ns) = Ok (command_of w ns)

@@ -1,4 +1,5 @@
 // What a line can ask for, and when.
+use tick_machine::call::{Making, Settlement};
 
 // Where a history stands: before an accepted link, at a draft, at an open link without a slip in hand, or with one.
 #[derive(Clone, Copy, PartialEq, Eq, Debug)]
@@ -11,8 +12,7 @@ pub enum Phase {
 
 #[derive(Clone, Copy, PartialEq, Eq, Debug)]
 pub enum Command {
-    // link number, largest length, capacity, weight of session 0
-    Make(u64, u64, u64, u64),
+    Make(Making),
     // weight
     Add(u64),
     Open,
@@ -24,7 +24,6 @@ pub enum Command {
     AskFigures(u64),
     AskTotals,
     Take,
-    // the slip in hand is filed, or returned
-    File,
-    Return,
+    // of the packet whose slip is in hand
+    Settle(Settlement),
 }

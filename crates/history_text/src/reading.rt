@@ -9,6 +9,7 @@ use crate::commands::{Command, Phase};
 use crate::faults::{Cause, Fault};
 use crate::fields::{Fields, Token};
 use crate::words::Word;
+use tick_machine::call::{Making, Settlement};
 
 // Before an accepted link only `link`; in a draft `sess` and `open`; then the rest, but `take` only without a slip in hand, and `filed` and
 // `back` only with one.
@@ -53,13 +54,12 @@ fn command_from(word: Word, fields: &mut Fields) -> Result<Command, Fault>
     ensures { result ≡ commanded word (numbers fields.old.place (coming fields.old)) }
 {
     match word {
-        Word::Link => {
-            let link = fields.next_number()?;
-            let largest = fields.next_number()?;
-            let capacity = fields.next_number()?;
-            let weight = fields.next_number()?;
-            Ok(Command::Make(link, largest, capacity, weight))
-        }
+        Word::Link => Ok(Command::Make(Making {
+            number: fields.next_number()?,
+            largest: fields.next_number()?,
+            capacity: fields.next_number()?,
+            weight: fields.next_number()?,
+        })),
         Word::Sess => Ok(Command::Add(fields.next_number()?)),
         Word::Open => Ok(Command::Open),
         Word::Arr => {
@@ -72,8 +72,8 @@ fn command_from(word: Word, fields: &mut Fields) -> Result<Command, Fault>
         Word::Figs => Ok(Command::AskFigures(fields.next_number()?)),
         Word::Tots => Ok(Command::AskTotals),
         Word::Take => Ok(Command::Take),
-        Word::Filed => Ok(Command::File),
-        Word::Back => Ok(Command::Return),
+        Word::Filed => Ok(Command::Settle(Settlement::File)),
+        Word::Back => Ok(Command::Settle(Settlement::Return)),
     }
 }
 

@@ -1,14 +1,10 @@
 use Rattle.std.proofs.Common.{ℕ, ◌^◌, ◌<◌, sym, ◌∙◌, subst, arith, w64, SFits, to_z, of_z, rules}
-use Rattle.std.proofs.lemmas.Result.{err_from_is_err_and}
 use Rattle.std.proofs.lemmas.Int.{to_z-of_z}
-use Rattle.link.proofs.Readings.{figures_refused, owed_known, sent_small, served_small, figures_goes, lead_bounded}
+use Rattle.link.proofs.Readings.{figures_refused, sent_small, served_small, figures_goes, lead_bounded}
 use Rattle.link.proofs.link.Link.figures.Goals as goal
 
 pub returns-then-session-len : goal.returns-then-session-len
 returns-then-session-len g c = record { keeps = λ f calls h. figures_refused h c.args.session (omega arith); lead = tt }
-
-pub returns-in_err-owed : goal.returns-in_err-owed
-returns-in_err-owed g c = record { keeps = λ f calls h. absurd (owed_known h c.args.session (omega arith) _ c.in_err-owed.ensures); lead = let p = err_from_is_err_and c.from_residual.result c.from_residual.ensures.1 in rw p.1 tt }
 
 pub returns : goal.returns
 returns g c =

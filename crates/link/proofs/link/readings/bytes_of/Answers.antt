@@ -1,5 +1,4 @@
-use Rattle.std.proofs.Common.{min, eqb, ap, ◌∙◌, arith, take_all}
-use Rattle.tick_machine.specs.Lists.{total, only}
+use Rattle.std.proofs.Common.{◌∙◌}
 use Rattle.link.proofs.Readings.{bytes_counted, bytes_passed}
 use Rattle.link.proofs.link.readings.bytes_of.Goals as goal
 use Rattle.link.proofs.link.readings.bytes_of.Goals.{then-packet-session, else-packet-session}
@@ -12,8 +11,3 @@ loop-packet-preserved c =
       | else-packet-session w ↦ bytes_passed c.args.session c.args.table.now c.loop-packet.packet-index _ c.loop-packet-test.true c.loop-packet.sum c.if-packet-session.sum c.loop-packet.invariant
           w.if-packet-session.false w.sum-is
     ]
-
-pub returns : goal.returns
-returns c =
-    c.loop-packet.invariant
-    ∙ ap (λ ps. min (total (λ p. only (eqb p.session c.args.session) p.size) ps) 18446744073709551615) (take_all c.loop-packet.packet-index c.args.table.now (omega arith))

@@ -6,14 +6,14 @@ ghost use Rattle.tick_machine.specs.Life.{made as made_of};
 ghost use Rattle.link_play.specs.Plays.{Reached, Plays, Answered, AddedAll, draft_replies, history_replies};
 
 use crate::spending::{take_and_file, take_and_return};
-use crate::step::{Making, Step};
+use crate::step::Step;
 use link::answers::{of_adding, of_arrival, of_figures, of_move};
 use link::draft::Draft;
 use link::error::MakeError;
 use link::link::Link;
 use slot_clock::clock::SlotClock;
 use std::alloc::{AllocError, Global};
-use tick_machine::call::Answer;
+use tick_machine::call::{Answer, Making};
 use waiting_line::line::WaitingLine;
 
 // One step.
@@ -90,24 +90,16 @@ pub fn answers_of<W: WaitingLine + Drop, S: SlotClock + Drop>(
     ensures { IfOk result (λ v. v.items ≡ history_replies making.number (made_of making.number making.largest making.capacity making.weight) weights.now steps.now) }
 {
     let mut answers = Vec::new(heap);
-    match Draft::<W>::make(
-        heap,
-        making.number,
-        making.largest,
-        making.capacity,
-        making.weight,
-    ) {
+    match Draft::<W>::make(heap, making) {
         Ok(draft) => {
             answers.push(Answer::Made(making.number))?;
             play_draft::<W, S>(draft, weights, steps, &mut answers)?;
             Ok(answers)
         }
-        Err(e) => match e {
-            MakeError::Refused(why) => {
-                answers.push(Answer::Refused(why))?;
-                Ok(answers)
-            }
-            MakeError::NoMemory => Err(AllocError),
-        },
+        Err(MakeError::Refused(why)) => {
+            answers.push(Answer::Refused(why))?;
+            Ok(answers)
+        }
+        Err(MakeError::NoMemory(e)) => Err(e),
     }
 }

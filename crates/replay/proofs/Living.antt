@@ -17,7 +17,7 @@ use Rattle.link.specs.declared.error.MakeError.{MakeError}
 use Rattle.link.specs.declared.error.MakeError.TheVariants as error
 use Rattle.link.specs.Drafting.{Drafts, Makes, Opens}
 use Rattle.link.proofs.Reached.{lawful}
-use Rattle.replay.specs.declared.making.Making.{Making}
+use Rattle.tick_machine.specs.declared.call.Making.{Making}
 use Rattle.replay.specs.History.{making_of, adding_answers, life_answers, history_answers, packets, OfLink, Lives, Plays}
 use Rattle.replay.specs.Hand.{Held, Called}
 

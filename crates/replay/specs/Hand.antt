@@ -11,17 +11,9 @@ use Rattle.tick_machine.specs.Life.{drafted, settlement, answer, after, answers}
 use Rattle.link.specs.declared.draft.Draft.{Draft}
 use Rattle.link.specs.declared.link.Link.{Link}
 use Rattle.link.specs.declared.slip.Slip.{Slip}
-use Rattle.link.specs.Places.{Numbered}
 use Rattle.link.specs.Promise.{Led}
 use Rattle.link.specs.Drafting.{Drafts}
 use Rattle.replay.specs.History.{adding_answers, packets, OfLink}
-
--- slips by the numbers of their packets
-abbrev pub slip_packet : Numbered Slip
-slip_packet = record {
-  number = λ s. s.says.packet;
-  blank = record { says = record { link = 0; packet = 0; session = 0; size = 0; tag = 0; started = 0; left = 0 } };
-}
 
 -- the slip of that link number and packet number was taken from those in hand of the link `own`, and the others stay in their order
 pub record Taken (own number packet : ℕ) (slips : List Slip) (s : Slip) (slips' : List Slip) : Type 0 where

@@ -1,27 +1,15 @@
 // The slips in hand: those that a link has handed out and that are not settled yet.
-ghost use Rattle.std.specs.Prelude.{◌≡◌, ◌+◌, ◌<◌, ◌≤◌, vec_len, vec_capacity, MatchOption, MatchResult, OnOk};
+ghost use Rattle.std.specs.Prelude.{◌≡◌, ◌+◌, ◌<◌, ◌≤◌, vec_len, vec_capacity, MatchResult, OnOk};
 ghost use Rattle.tick_machine.specs.declared.call.Call.TheVariants.{Collect, File, Return};
-ghost use Rattle.link.specs.Places.{At, Nowhere};
-ghost use Rattle.replay.specs.Hand.{slip_packet, Taken, Missing, Reached, Answers};
+ghost use Rattle.replay.specs.Hand.{Taken, Missing, Reached, Answers};
 
 use link::link::Link;
 use link::slip::Slip;
+use link::table::place;
 use slot_clock::clock::SlotClock;
 use tick_machine::call::Answer;
 use tick_machine::refusal::Refusal;
 use waiting_line::line::WaitingLine;
-
-// Where the slip of the packet stands.
-fn place(slips: &[Slip], packet: u64) -> Option<usize>
-    ensures { MatchOption result (Nowhere slip_packet packet slips.now) (λ i. At slip_packet packet slips.now i) }
-{
-    for (i, slip) in slips.iter().enumerate() {
-        if slip.copy().packet == packet {
-            return Some(i);
-        }
-    }
-    None
-}
 
 // Takes the slip of that link number and packet number from those in hand of the link `own`, or says why there is none.
 fn take(own: u64, slips: &mut Vec<Slip>, number: u64, packet: u64) -> Result<Slip, Refusal>

@@ -3,7 +3,6 @@
 #![tactic(auto)]
 
 pub mod hand;
-pub mod making;
 pub mod play;
 pub mod played;
 pub mod turns;

@@ -4,7 +4,6 @@ ghost use Rattle.tick_machine.specs.Machine.{Config};
 ghost use Rattle.link.specs.Drafting.{Drafts};
 ghost use Rattle.replay.specs.History.{Lives, Plays};
 
-use crate::making::Making;
 use crate::played::Played;
 use crate::turns::{add_all, call_all};
 use link::draft::Draft;
@@ -13,7 +12,7 @@ use link::link::Link;
 use link::slip::Slip;
 use slot_clock::clock::SlotClock;
 use std::alloc::{AllocError, Global};
-use tick_machine::call::{Answer, Call};
+use tick_machine::call::{Answer, Call, Making};
 use waiting_line::line::WaitingLine;
 
 // How many packets may be out at once.
@@ -67,25 +66,17 @@ pub fn play<W: WaitingLine + Drop, S: SlotClock + Drop>(
     ensures { IfOk result (λ p. Plays making addings.now calls.now p.answers.items p.slips.items) }
 {
     let mut answers = room_for(heap, addings.len(), calls.len())?;
-    match Draft::<W>::make(
-        heap,
-        making.number,
-        making.largest,
-        making.capacity,
-        making.weight,
-    ) {
+    match Draft::<W>::make(heap, making) {
         Ok(draft) => {
             let slips = Vec::with_capacity(heap, UNSETTLED)?;
             let played = live::<W, S>(making.number, draft, addings, calls, answers, slips);
             Ok(played)
         }
-        Err(e) => match e {
-            MakeError::Refused(refusal) => {
-                answers.push_reserved(Answer::Refused(refusal));
-                let slips = Vec::new(heap);
-                Ok(Played { answers, slips })
-            }
-            MakeError::NoMemory => Err(AllocError),
-        },
+        Err(MakeError::Refused(refusal)) => {
+            answers.push_reserved(Answer::Refused(refusal));
+            let slips = Vec::new(heap);
+            Ok(Played { answers, slips })
+        }
+        Err(MakeError::NoMemory(e)) => Err(e),
     }
 }

@@ -2,7 +2,7 @@ use Rattle.std.proofs.Common.{◌≡◌, ◌+◌, take, vec_items, vec_len, vec_
 use Rattle.tick_machine.specs.Machine.{Config}
 use Rattle.link.specs.Drafting.{Drafts}
 use Rattle.replay.specs.Hand.{AddedAll}
-use Rattle.replay.proofs.turns.add_all.Given as goal
+use Rattle.replay.proofs.adding.add_all.Given as goal
 
 abbrev pub invariant-loop-weight : goal.invariant-loop-weight
 invariant-loop-weight g l =

@@ -156,4 +156,14 @@ impl<W: WaitingLine, S: SlotClock> Desk<W, S> {
             let _ = self.settle(Settlement::Return, says.link, says.packet);
         }
     }
+
+    // Every slip in hand is returned, and the link is let go.
+    pub fn close(mut self)
+    where
+        W: Drop,
+        S: Drop,
+    {
+        self.return_all();
+        self.into_slips().destroy_empty();
+    }
 }

@@ -9,4 +9,4 @@ mod limits;
 pub mod link;
 pub mod session;
 pub mod slip;
-mod table;
+pub mod table;

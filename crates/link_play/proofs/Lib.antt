@@ -1,3 +1,1 @@
-pub mod Outs
-pub mod Steps
 pub mod Replies

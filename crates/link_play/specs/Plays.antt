@@ -5,17 +5,16 @@ use Rattle.slot_clock.specs.State.{SlotState}
 use Rattle.tick_machine.specs.declared.packet.SlipCopy.{SlipCopy}
 use Rattle.tick_machine.specs.declared.call.Call.{Call}
 use Rattle.tick_machine.specs.declared.call.Call.TheVariants.{Arrive, MoveTo, Collect, File, Return, AskFigures, AskTotals}
+use Rattle.tick_machine.specs.declared.call.Settlement.{Settlement}
 use Rattle.tick_machine.specs.declared.refusal.Refusal.{Refusal}
 use Rattle.tick_machine.specs.declared.call.Answer.{Answer}
-use Rattle.tick_machine.specs.declared.call.Answer.TheVariants.{Made, Added, Opened, Refused}
+use Rattle.tick_machine.specs.declared.call.Answer.TheVariants.{Made, Opened, Collected, Refused}
 use Rattle.tick_machine.specs.Slots.{round_length}
 use Rattle.tick_machine.specs.Desk.{first}
 use Rattle.tick_machine.specs.Machine.{Config, Machine}
-use Rattle.tick_machine.specs.Life.{after, answer, slip_of, told, adding, added, drafted}
-use Rattle.link.specs.declared.link.Link.{Link}
-use Rattle.link.specs.declared.draft.Draft.{Draft}
-use Rattle.link.specs.Promise.{Led}
-use Rattle.link.specs.Drafting.{Drafts}
+use Rattle.tick_machine.specs.Life.{after, answer, slip_of, settling, drafted}
+use Rattle.replay.specs.History.{adding_answers}
+use Rattle.replay.specs.Hand.{InHand, Held}
 use Rattle.link_play.specs.declared.step.Step.{Step}
 use Rattle.link_play.specs.declared.step.Step.TheVariants as step
 
@@ -51,62 +50,38 @@ abbrev pub replies : Config → List Call → List Step → List Answer
 replies c calls [] = []
 replies c calls (s ∷ ss) = answer c (after c calls) (asked s) ∷ replies c (calls_of c (after c calls) s ++ calls) ss
 
--- what the addings of these weights are answered
-abbrev pub adding_replies : Config → List ℕ → List Answer
-adding_replies c [] = []
-adding_replies c (w ∷ ws) = told Added (adding c w) ∷ adding_replies (added c w) ws
-
 -- what the addings, the opening and the steps are answered
 abbrev pub draft_replies : Config → List ℕ → List Step → List Answer
-draft_replies c ws steps = adding_replies c ws ++ Opened (round_length (drafted c ws).weights) ∷ replies (drafted c ws) [] steps
+draft_replies c ws steps = adding_answers c ws ++ Opened (round_length (drafted c ws).weights) ∷ replies (drafted c ws) [] steps
 
 -- what a whole history is answered, from the making of a link of that number on
 abbrev pub history_replies : ℕ → Result Config Refusal → List ℕ → List Step → List Answer
 history_replies number (Ok c) ws steps = Made number ∷ draft_replies c ws steps
 history_replies number (Err e) ws steps = Refused e ∷ []
 
-module _ {W : Type 0} (pairs : W → List Pair) (capacity : W → ℕ) where
-  -- some weights were added: the draft so far, and what is still to be answered for the others
-  pub record Adding (c : Config) (ws : List ℕ) (before : List Answer) (rest : List ℕ) (behind : List Answer) (d : Draft W) : Type 0 where
-    pub config : Config
-    pub drafts : Drafts pairs capacity config d
-    pub ends : drafted config rest ≡ drafted c ws
-    pub tells : behind ++ adding_replies config rest ≡ before ++ adding_replies c ws
-
-  -- all weights were added
-  pub record AddedAll (c : Config) (ws : List ℕ) (before : List Answer) (behind : List Answer) (d : Draft W) : Type 0 where
-    pub drafts : Drafts pairs capacity (drafted c ws) d
-    pub tells : behind ≡ before ++ adding_replies c ws
-
 module _ {W S : Type 0} (pairs : W → List Pair) (capacity : W → ℕ) (state : S → SlotState) where
-  -- some history led to the link
-  pub record Reached (l : Link W S) : Type 0 where
-    pub config : Config
-    pub calls : List Call
-    pub led : Led pairs capacity state config calls l
+  -- after those calls, the next slip was taken and settled so, or none was there
+  pub record Spent (how : Settlement) (c : Config) (calls : List Call) (said : Answer) (d' : InHand W S) : Type 0 where
+    pub told : said ≡ Collected (next_slip c (after c calls))
+    pub held : Held pairs capacity state c (spending (settling how) (next_slip c (after c calls)) ++ calls) d'
 
-  -- after those calls, a slip was taken and settled so, or none was there
-  pub record Spent (settle : ℕ → ℕ → Call) (c : Config) (calls : List Call) (r : Option SlipCopy) (l' : Link W S) : Type 0 where
-    pub said : r ≡ next_slip c (after c calls)
-    pub led : Led pairs capacity state c (spending settle r ++ calls) l'
-
-  abbrev pub Spends : (ℕ → ℕ → Call) → Link W S → Option SlipCopy → Link W S → Type 0
-  Spends settle l r l' = (c : Config) (calls : List Call) → Led pairs capacity state c calls l → Spent settle c calls r l'
+  abbrev pub Spends : Settlement → InHand W S → Answer → InHand W S → Type 0
+  Spends how d said d' = (c : Config) (calls : List Call) → Held pairs capacity state c calls d → Spent how c calls said d'
 
   -- after those calls, a step was answered as the tick machine answers it, and its calls led on
-  pub record Played (step : Step) (c : Config) (calls : List Call) (said : Answer) (l' : Link W S) : Type 0 where
+  pub record Played (step : Step) (c : Config) (calls : List Call) (said : Answer) (d' : InHand W S) : Type 0 where
     pub told : said ≡ answer c (after c calls) (asked step)
-    pub led : Led pairs capacity state c (calls_of c (after c calls) step ++ calls) l'
+    pub held : Held pairs capacity state c (calls_of c (after c calls) step ++ calls) d'
 
-  abbrev pub Plays : Step → Link W S → Answer → Link W S → Type 0
-  Plays step l said l' = (c : Config) (calls : List Call) → Led pairs capacity state c calls l → Played step c calls said l'
+  abbrev pub Plays : Step → InHand W S → Answer → InHand W S → Type 0
+  Plays step d said d' = (c : Config) (calls : List Call) → Held pairs capacity state c calls d → Played step c calls said d'
 
   -- some steps were played: the calls that led here, and what is still to be answered for the others
-  pub record Playing (c : Config) (calls : List Call) (steps : List Step) (before : List Answer) (rest : List Step) (behind : List Answer) (l : Link W S) : Type 0 where
+  pub record Playing (c : Config) (calls : List Call) (steps : List Step) (before : List Answer) (rest : List Step) (behind : List Answer) (d : InHand W S) : Type 0 where
     pub since : List Call
-    pub led : Led pairs capacity state c since l
+    pub held : Held pairs capacity state c since d
     pub tells : behind ++ replies c since rest ≡ before ++ replies c calls steps
 
   -- all steps were played
-  abbrev pub Answered : Link W S → List Step → List Answer → List Answer → Type 0
-  Answered l steps before behind = (c : Config) (calls : List Call) → Led pairs capacity state c calls l → behind ≡ before ++ replies c calls steps
+  abbrev pub Answered : InHand W S → List Step → List Answer → List Answer → Type 0
+  Answered d steps before behind = (c : Config) (calls : List Call) → Held pairs capacity state c calls d → behind ≡ before ++ replies c calls steps

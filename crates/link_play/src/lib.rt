@@ -3,5 +3,4 @@
 #![tactic(auto)]
 
 pub mod play;
-mod spending;
 pub mod step;

@@ -1,62 +1,72 @@
 // A slip of one link at another: refused there, handed back, and filed at its own.
-ghost use Rattle.std.specs.Prelude.{IfSome};
-ghost use Rattle.link_play.specs.Plays.{Reached};
-
 use jump_clock::jump::JumpClock;
 use link::draft::Draft;
+use link::error::MakeError;
 use link::link::Link;
 use slot_clock::clock::SlotClock;
 use slot_clock::step::StepClock;
 use std::alloc::Global;
+use std::marker::Model;
 use std::process::Abort;
 use std::test::Fail;
-use tick_machine::call::Totals;
+use tick_machine::call::{Making, Totals};
 use tick_machine::refusal::Refusal;
 use waiting_line::heap_line::HeapLine;
 use waiting_line::line::WaitingLine;
 use waiting_line::sorted_line::SortedLine;
 
-// An open link of one session.
-fn opened<W: WaitingLine + Drop, S: SlotClock>(heap: Global, number: u64) -> Option<Link<W, S>>
-    ensures { IfSome result (λ l. Reached W.WaitingLine.pairs W.WaitingLine.capacity S.SlotClock.state l) }
-{
-    match Draft::<W>::make(heap, number, 10, 8, 1) {
-        Ok(draft) => {
-            let (link, _round) = draft.open::<S>();
-            Some(link)
-        }
-        Err(_) => None,
+#[derive(Drop)]
+struct Open<W: WaitingLine, S: SlotClock> {
+    link: Link<W, S>,
+}
+
+// Some history led to the link.
+impl<W: WaitingLine, S: SlotClock> Model for Open<W, S> {
+    ghost use Rattle.std.specs.Prelude.{List};
+    ghost use Rattle.tick_machine.specs.declared.call.Call.{Call};
+    ghost use Rattle.tick_machine.specs.Machine.{Config};
+    ghost use Rattle.link.specs.declared.link.Link.{Link};
+    ghost use Rattle.link.specs.Promise.{Led};
+
+    ghost Value = { Link W S };
+
+    ghost view = { λ o. o.link };
+
+    ghost invariant = { λ o. (c : Config) × ((calls : List Call) × Led W.WaitingLine.pairs W.WaitingLine.capacity S.SlotClock.state c calls o.link) };
+}
+
+impl<W: WaitingLine, S: SlotClock> Open<W, S> {
+    // An open link of one session.
+    fn opened(heap: Global, number: u64) -> Result<Open<W, S>, MakeError>
+    where
+        W: Drop,
+    {
+        let making = Making {
+            number,
+            largest: 10,
+            capacity: 8,
+            weight: 1,
+        };
+        let (link, _round) = Draft::<W>::make(heap, making)?.open::<S>();
+        Ok(Open { link })
     }
-}
 
-// A packet comes and leaves.
-fn send_one<W: WaitingLine, S: SlotClock>(link: &mut Link<W, S>)
-    requires { Reached W.WaitingLine.pairs W.WaitingLine.capacity S.SlotClock.state link.old }
-    ensures { Reached W.WaitingLine.pairs W.WaitingLine.capacity S.SlotClock.state link.new }
-{
-    let _ = link.arrive(0, 1, 5);
-    let _ = link.move_to(1);
-}
+    // A packet comes and leaves.
+    fn send_one(&mut self) {
+        let _ = self.link.arrive(0, 1, 5);
+        let _ = self.link.move_to(1);
+    }
 
-// The slip of the next packet is offered to the other link. Why it is refused there, and the number under which it is then filed at its own.
-fn offer<W: WaitingLine, S: SlotClock>(
-    own: &mut Link<W, S>,
-    other: &mut Link<W, S>,
-) -> Option<(Refusal, u64)>
-    requires { Reached W.WaitingLine.pairs W.WaitingLine.capacity S.SlotClock.state own.old }
-{
-    match own.collect() {
-        None => None,
-        Some(slip) => match other.file(slip) {
+    // The slip of the next packet is offered to the other link. Why it is refused there, and the number under which it is then filed at its own.
+    fn offer(&mut self, other: &mut Open<W, S>) -> Option<(Refusal, u64)> {
+        let slip = self.link.collect()?;
+        match other.link.file(slip) {
             Ok(_) => None,
-            Err(refused) => {
-                let (why, back) = refused;
-                match own.file(back) {
-                    Ok(number) => Some((why, number)),
-                    Err(_again) => unreachable(),
-                }
-            }
-        },
+            Err((why, back)) => match self.link.file(back) {
+                Ok(number) => Some((why, number)),
+                Err(_again) => unreachable(),
+            },
+        }
     }
 }
 
@@ -65,11 +75,11 @@ fn crossed<W: WaitingLine + Drop, S: SlotClock + Drop>(
     own: u64,
     other: u64,
 ) -> Option<(Refusal, u64, Totals, Totals)> {
-    let mut one: Link<W, S> = opened(heap, own)?;
-    let mut two: Link<W, S> = opened(heap, other)?;
-    send_one(&mut one);
-    let (why, number) = offer(&mut one, &mut two)?;
-    Some((why, number, one.totals(), two.totals()))
+    let mut one: Open<W, S> = Open::opened(heap, own).ok()?;
+    let mut two: Open<W, S> = Open::opened(heap, other).ok()?;
+    one.send_one();
+    let (why, number) = one.offer(&mut two)?;
+    Some((why, number, one.link.totals(), two.link.totals()))
 }
 
 fn refused_elsewhere<W: WaitingLine + Drop, S: SlotClock + Drop>(

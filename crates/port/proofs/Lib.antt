@@ -1,4 +1,3 @@
 pub mod Turning
 pub mod Addings
-pub mod Reporting
-pub mod Words
+pub mod Drawing

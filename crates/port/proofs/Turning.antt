@@ -5,9 +5,7 @@ use Rattle.waiting_line.specs.declared.pair.Pair.{Pair}
 use Rattle.slot_clock.specs.State.{SlotState}
 use Rattle.tick_machine.specs.declared.call.Call.{Call}
 use Rattle.tick_machine.specs.Machine.{Config}
-use Rattle.link.specs.declared.link.Link.{Link}
-use Rattle.link.specs.declared.slip.Slip.{Slip}
-use Rattle.replay.specs.Hand.{Held}
+use Rattle.replay.specs.Hand.{InHand, Held}
 use Rattle.port.specs.declared.records.CallRecord.{CallRecord}
 use Rattle.port.specs.declared.records.AnswerRecord.{AnswerRecord}
 use Rattle.port.specs.Records.{call_in}
@@ -22,14 +20,14 @@ replies_push c done [] r = refl
 replies_push c done (x ∷ rs) r = ap (λ ys. reply c done (call_in x) ∷ ys) (replies_push c (grown done (call_in x)) rs r)
 
 module _ {W S : Type 0} {pairs : W → List Pair} {capacity : W → ℕ} {state : S → SlotState} where
-  pub turned_more : {c : Config} {l l' : Link W S} {ss ss' : List Slip} (rs : List CallRecord) (i : ℕ) (d : CallRecord) → i < length rs → (was said : List AnswerRecord) (a : AnswerRecord) → i < length said
-      → TurnedAll pairs capacity state c i rs was said l ss → Turned pairs capacity state c (grown_by [] (take i rs)) (get_or rs i d) a l' ss'
-      → TurnedAll pairs capacity state c (i + 1) rs was (set said i a) l' ss'
-  turned_more {c} {l} {l'} {ss} {ss'} rs i d h was said a k p t =
-      let r = get_or rs i d in
-      let e : take (i + 1) rs ≡ take i rs ++ r ∷ [] = take_more rs i d h in
+  pub turned_more : {c : Config} {d d' : InHand W S} (rs : List CallRecord) (i : ℕ) (z : CallRecord) → i < length rs → (was said : List AnswerRecord) (a : AnswerRecord) → i < length said
+      → TurnedAll pairs capacity state c i rs was said d → Turned pairs capacity state c (grown_by [] (take i rs)) (get_or rs i z) a d'
+      → TurnedAll pairs capacity state c (i + 1) rs was (set said i a) d'
+  turned_more {c} {d} {d'} rs i z h was said a k p t =
+      let r = get_or rs i z in
+      let e : take (i + 1) rs ≡ take i rs ++ r ∷ [] = take_more rs i z h in
       record {
-        held = subst (λ (x : List Call). Held pairs capacity state c x l' ss') (sym (ap (grown_by []) e ∙ grown_push [] (take i rs) r)) t.held;
+        held = subst (λ (x : List Call). Held pairs capacity state c x d') (sym (ap (grown_by []) e ∙ grown_push [] (take i rs) r)) t.held;
         told = take_more_set said i a k ∙ (λ j. p.told j ++ t.told j ∷ []) ∙ sym (ap (replies c []) e ∙ replies_push c [] (take i rs) r);
         rest = drop-set-lt (i + 1) said i a (omega arith) ∙ sym (drop-drop 1 i said) ∙ ap (drop 1) p.rest ∙ drop-drop 1 i was;
       }

@@ -1,5 +1,5 @@
 -- What the records that cross to C mean: the one definition of their kinds and of the places of their numbers. Assumes nothing.
-use Rattle.std.specs.Prelude.{ℕ, cond, [], ◌∷◌, pos, Some, None, Option, ◌==◌}
+use Rattle.std.specs.Prelude.{◌≡◌, ℕ, cond, [], ◌∷◌, pos, Some, None, Ok, Err, Option, Result, ◌==◌}
 use Rattle.tick_machine.specs.declared.packet.SlipCopy.{SlipCopy}
 use Rattle.tick_machine.specs.declared.refusal.LineRefusal.{LineRefusal}
 use Rattle.tick_machine.specs.declared.refusal.Refusal.{Refusal}
@@ -10,6 +10,7 @@ use Rattle.tick_machine.specs.declared.call.Answer.TheVariants.{Made, Added, Ope
 use Rattle.tick_machine.specs.Refusals.{line_number, outer, inner}
 use Rattle.port.specs.declared.records.CallRecord.{CallRecord}
 use Rattle.port.specs.declared.records.AnswerRecord.{AnswerRecord}
+use Rattle.port.specs.declared.reading.UnknownKind.{UnknownKind}
 
 -- the call that a record is; a kind over 7, or 0, is none
 abbrev pub call_in : CallRecord → Option Call
@@ -22,6 +23,11 @@ call_in r =
     (cond (r.kind == 6) (Some (AskFigures r.a))
     (cond (r.kind == 7) (Some AskTotals)
     None))))))
+
+-- what is read of a record: its call, or that its kind is unknown
+abbrev pub Reads : CallRecord → Result Call UnknownKind → Type 0
+Reads r (Ok call) = call_in r ≡ Some call
+Reads r (Err e) = (call_in r ≡ None) × (e.kind ≡ r.kind)
 
 -- a record with no lead
 abbrev pub plain : ℕ → ℕ → ℕ → ℕ → ℕ → ℕ → ℕ → ℕ → AnswerRecord

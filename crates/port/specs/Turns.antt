@@ -5,9 +5,7 @@ use Rattle.slot_clock.specs.State.{SlotState}
 use Rattle.tick_machine.specs.declared.call.Call.{Call}
 use Rattle.tick_machine.specs.Machine.{Config}
 use Rattle.tick_machine.specs.Life.{answer, after}
-use Rattle.link.specs.declared.link.Link.{Link}
-use Rattle.link.specs.declared.slip.Slip.{Slip}
-use Rattle.replay.specs.Hand.{Held}
+use Rattle.replay.specs.Hand.{InHand, Held}
 use Rattle.port.specs.declared.records.CallRecord.{CallRecord}
 use Rattle.port.specs.declared.records.AnswerRecord.{AnswerRecord}
 use Rattle.port.specs.Records.{call_in, no_call, record_of}
@@ -34,16 +32,16 @@ replies c done (r ∷ rs) = reply c done (call_in r) ∷ replies c (grown done (
 
 module _ {W S : Type 0} (pairs : W → List Pair) (capacity : W → ℕ) (state : S → SlotState) where
   -- a record after those calls: the reply, and the link and the slips in hand after it
-  pub record Turned (c : Config) (done : List Call) (r : CallRecord) (said : AnswerRecord) (l : Link W S) (slips : List Slip) : Type 0 where
-    pub held : Held pairs capacity state c (grown done (call_in r)) l slips
+  pub record Turned (c : Config) (done : List Call) (r : CallRecord) (said : AnswerRecord) (d : InHand W S) : Type 0 where
+    pub held : Held pairs capacity state c (grown done (call_in r)) d
     pub told : said ≡ reply c done (call_in r)
 
   -- whatever history led to the link with those slips
-  abbrev pub Turns : Link W S → List Slip → CallRecord → AnswerRecord → Link W S → List Slip → Type 0
-  Turns l slips r said l' slips' = (c : Config) (done : List Call) → Held pairs capacity state c done l slips → Turned c done r said l' slips'
+  abbrev pub Turns : InHand W S → CallRecord → AnswerRecord → InHand W S → Type 0
+  Turns d r said d' = (c : Config) (done : List Call) → Held pairs capacity state c done d → Turned c done r said d'
 
   -- so many records on a link just opened: their replies stand in the first places, and the other places are as they were
-  pub record TurnedAll (c : Config) (n : ℕ) (rs : List CallRecord) (was said : List AnswerRecord) (l : Link W S) (slips : List Slip) : Type 0 where
-    pub held : Held pairs capacity state c (grown_by [] (take n rs)) l slips
+  pub record TurnedAll (c : Config) (n : ℕ) (rs : List CallRecord) (was said : List AnswerRecord) (d : InHand W S) : Type 0 where
+    pub held : Held pairs capacity state c (grown_by [] (take n rs)) d
     pub told : take n said ≡ replies c [] (take n rs)
     pub rest : drop n said ≡ drop n was

@@ -1,33 +1,25 @@
 // From a making and its weights to a draft that may be opened.
 ghost use Rattle.std.specs.Prelude.{◌≡◌, drop};
 ghost use Rattle.tick_machine.specs.Machine.{Config};
+ghost use Rattle.tick_machine.specs.Life.{made};
 ghost use Rattle.link.specs.Drafting.{Drafts};
-ghost use Rattle.port.specs.Preparing.{first_weight, all_added, prepared, AddsAll, Prepares};
+ghost use Rattle.port.specs.Preparing.{first_weight, all_added, AddsAll, Prepares};
 
 use link::draft::Draft;
 use link::error::MakeError;
 use std::alloc::Global;
+use tick_machine::call::Making;
 use tick_machine::refusal::Refusal;
 use waiting_line::line::WaitingLine;
 
-// The weight of session 0; a list of none counts as weight 0.
-fn first_of(weights: &[u64]) -> u64
-    ensures { result ≡ first_weight weights.now }
+// The weight of session 0, and those of the other sessions; a list of none counts as weight 0.
+fn parts_of(weights: &[u64]) -> (u64, &[u64])
+    ensures first { result.0 ≡ first_weight weights.now }
+    ensures others { result.1.now ≡ drop 1 weights.now }
 {
     match weights {
-        [first, ..] => *first,
-        [] => 0,
-    }
-}
-
-// The weights of the other sessions.
-fn rest_of(weights: &[u64]) -> &[u64]
-    ensures { result.now ≡ drop 1 weights.now }
-{
-    if weights.is_empty() {
-        weights
-    } else {
-        &weights[1..]
+        [first, others @ ..] => (*first, others),
+        [] => (0, weights),
     }
 }
 
@@ -36,9 +28,7 @@ fn add_all<W: WaitingLine>(draft: &mut Draft<W>, weights: &[u64]) -> Result<(), 
     ensures { (c : Config) → Drafts W.WaitingLine.pairs W.WaitingLine.capacity c draft.old → AddsAll W.WaitingLine.pairs W.WaitingLine.capacity (all_added c weights.now) result draft.new }
 {
     for weight in weights {
-        if let Err(e) = draft.add(*weight) {
-            return Err(e);
-        }
+        draft.add(*weight)?;
     }
     Ok(())
 }
@@ -51,9 +41,16 @@ pub fn prepare<W: WaitingLine + Drop>(
     capacity: u64,
     weights: &[u64],
 ) -> Result<Draft<W>, MakeError>
-    ensures { Prepares W.WaitingLine.pairs W.WaitingLine.capacity (prepared number largest capacity weights.now) result }
+    ensures { Prepares W.WaitingLine.pairs W.WaitingLine.capacity (made number largest capacity (first_weight weights.now)) (drop 1 weights.now) result }
 {
-    let mut draft = Draft::make(heap, number, largest, capacity, first_of(weights))?;
-    add_all(&mut draft, rest_of(weights))?;
+    let (weight, others) = parts_of(weights);
+    let making = Making {
+        number,
+        largest,
+        capacity,
+        weight,
+    };
+    let mut draft = Draft::make(heap, making)?;
+    add_all(&mut draft, others)?;
     Ok(draft)
 }

@@ -1,23 +1,32 @@
 // Calls from C.
-ghost use Rattle.std.specs.Prelude.{◌≡◌};
-ghost use Rattle.port.specs.Records.{call_in};
+ghost use Rattle.port.specs.Records.{Reads};
 
 use crate::records::CallRecord;
 use tick_machine::call::Call;
 
-// The call that a record is, or none if its kind is unknown.
-pub fn call_of(asked: CallRecord) -> Option<Call>
-    ensures { result ≡ call_in asked }
-{
-    let CallRecord { kind, a, b, c } = asked;
-    match kind {
-        1 => Some(Call::Arrive(a, b, c)),
-        2 => Some(Call::MoveTo(a)),
-        3 => Some(Call::Collect),
-        4 => Some(Call::File(a, b)),
-        5 => Some(Call::Return(a, b)),
-        6 => Some(Call::AskFigures(a)),
-        7 => Some(Call::AskTotals),
-        _ => None,
+// No call has the kind.
+#[derive(Clone, Copy, PartialEq, Eq, Debug)]
+pub struct UnknownKind {
+    pub kind: u64,
+}
+
+// The call that a record is. Its kind is a number, since C has no enums that hold numbers.
+impl TryFrom<CallRecord> for Call {
+    type Error = UnknownKind;
+
+    ghost try_from_gives = { Reads };
+
+    fn try_from(asked: CallRecord) -> Result<Call, UnknownKind> {
+        let CallRecord { kind, a, b, c } = asked;
+        match kind {
+            1 => Ok(Call::Arrive(a, b, c)),
+            2 => Ok(Call::MoveTo(a)),
+            3 => Ok(Call::Collect),
+            4 => Ok(Call::File(a, b)),
+            5 => Ok(Call::Return(a, b)),
+            6 => Ok(Call::AskFigures(a)),
+            7 => Ok(Call::AskTotals),
+            _ => Err(UnknownKind { kind }),
+        }
     }
 }

@@ -1,14 +1,14 @@
 // Calls that come one by one by a descriptor.
-ghost use Rattle.std.specs.Prelude.{◌≤◌, vec_capacity};
-ghost use Rattle.replay.specs.Hand.{Reached};
-
 use crate::bytes::{answer_bytes, call_from};
 use crate::records::{AnswerRecord, CallRecord};
 use crate::turns::turn;
-use link::link::Link;
-use link::slip::Slip;
+use replay::desk::Desk;
 use slot_clock::clock::SlotClock;
 use waiting_line::line::WaitingLine;
+
+// An answer could not be written whole.
+#[derive(Clone, Copy, PartialEq, Eq, Debug)]
+pub struct Unwritten;
 
 // The next call, or none where the calls end.
 fn read_call(requests: i32) -> Option<CallRecord> {
@@ -19,28 +19,27 @@ fn read_call(requests: i32) -> Option<CallRecord> {
     Some(call_from(&bytes))
 }
 
-// Whether the whole answer was written.
-pub fn write_answer(answers: i32, said: AnswerRecord) -> bool {
-    io::write_all(answers, &answer_bytes(said))
+// Writes the whole answer.
+pub fn write_answer(answers: i32, said: AnswerRecord) -> Result<(), Unwritten> {
+    if io::write_all(answers, &answer_bytes(said)) {
+        Ok(())
+    } else {
+        Err(Unwritten)
+    }
 }
 
 // Answers calls until they end or an answer cannot be written.
 pub fn serve<W: WaitingLine, S: SlotClock>(
-    link: &mut Link<W, S>,
-    slips: &mut Vec<Slip>,
+    desk: &mut Desk<W, S>,
     requests: i32,
     answers: i32,
-)
-    requires held { Reached W.WaitingLine.pairs W.WaitingLine.capacity S.SlotClock.state link.old slips.old.items }
-    requires places { 1024 ≤ vec_capacity slips.old }
-    ensures held { Reached W.WaitingLine.pairs W.WaitingLine.capacity S.SlotClock.state link.new slips.new.items }
-{
+) -> Result<(), Unwritten> {
+    // the calls come for as long as they come, and a loop with no bound at all would need leave to wait
     for _ in 0..u64::MAX {
         let Some(asked) = read_call(requests) else {
-            return;
+            break;
         };
-        if !write_answer(answers, turn(link, slips, asked)) {
-            return;
-        }
+        write_answer(answers, turn(desk, asked))?;
     }
+    Ok(())
 }

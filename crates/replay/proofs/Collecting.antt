@@ -36,8 +36,8 @@ said_none link [] out e = refl
 said_none link (d ∷ ds) out e = let z : ◌≡◌ {A = ℕ} 0 1 = cc in absurd (omega arith)
 
 module _ {W S : Type 0} {pairs : W → List Pair} {capacity : W → ℕ} {state : S → SlotState} {c : Config} {calls : List Call} {l : Link W S} {ss : List Slip}
-    (h : Held pairs capacity state c calls l ss) where
-  pub none_answered : {l' : Link W S} → Goes pairs capacity state c calls l Collect (collected_as None) l' → Answered pairs capacity state c calls Collect (Collected None) l' ss
+    (h : Held pairs capacity state c calls (record { link = l; slips = ss })) where
+  pub none_answered : {l' : Link W S} → Goes pairs capacity state c calls l Collect (collected_as None) l' → Answered pairs capacity state c calls Collect (Collected None) (record { link = l'; slips = ss })
   none_answered g = record {
     held = record { led = g.led; out = h.out ∙ sym (said_none c.link (after c calls).desk.left (after c calls).desk.out g.told); own = h.own };
     told = g.told;
@@ -55,7 +55,7 @@ module _ {W S : Type 0} {pairs : W → List Pair} {capacity : W → ℕ} {state 
         = ap length said.handed_is ∙ length_push (after c calls).desk.out s.says.packet ∙ ap (λ (xs : List ℕ). length xs + 1) (sym h.out) ∙ ap (λ n. n + 1) (length-map ss (λ (x : Slip). x.says.packet)) in
         omega (arith, small, many)
 
-    pub one_answered : (says : SlipCopy) (ss' : List Slip) → says ≡ s.says → ss' ≡ ss ++ s ∷ [] → Answered pairs capacity state c calls Collect (Collected (Some says)) l' ss'
+    pub one_answered : (says : SlipCopy) (ss' : List Slip) → says ≡ s.says → ss' ≡ ss ++ s ∷ [] → Answered pairs capacity state c calls Collect (Collected (Some says)) (record { link = l'; slips = ss' })
     one_answered says ss' e q = record {
       held = record {
         led = g.led;

@@ -7,23 +7,30 @@ use Rattle.tick_machine.specs.declared.refusal.Refusal.TheVariants.{OtherLink, N
 use Rattle.tick_machine.specs.Lists.{none, more}
 use Rattle.tick_machine.specs.Desk.{among}
 use Rattle.link.specs.declared.slip.Slip.{Slip}
-use Rattle.link.specs.Places.{At, Nowhere, itself}
+use Rattle.link.specs.Places.{At, Nowhere}
 use Rattle.link.proofs.Slips.{at_among, at_without, nowhere_among, other_link, not_out}
 use Rattle.replay.specs.History.{packets, OfLink}
-use Rattle.replay.specs.Hand.{slip_packet, Taken, Missing}
+use Rattle.replay.specs.Hand.{Taken, Missing}
+
+-- some slip, for reads past the end
+blank : Slip
+blank = record { says = record { link = 0; packet = 0; session = 0; size = 0; tag = 0; started = 0; left = 0 } }
+
+read_number : (ss : List Slip) (i d : ℕ) → i < length (packets ss) → get_or (packets ss) i d ≡ (get_or ss i blank).says.packet
+read_number ss i d l = get_or-map (λ (s : Slip). s.says.packet) ss i blank d (omega (arith, l, length-map ss (λ (s : Slip). s.says.packet)))
 
 -- where a slip stands, the number of its packet stands among the numbers
-at_numbers : (k : ℕ) (ss : List Slip) (i : ℕ) → At slip_packet k ss i → At itself k (packets ss) i
-at_numbers k ss i a = record {
-  within = omega (arith, a.within, length-map ss (λ (s : Slip). s.says.packet));
-  here = get_or-map (λ (s : Slip). s.says.packet) ss i slip_packet.blank 0 a.within ∙ a.here;
-  before = λ j l e. a.before j l (sym (get_or-map (λ (s : Slip). s.says.packet) ss j slip_packet.blank 0 (omega (arith, a.within))) ∙ e);
-}
+at_numbers : (k : ℕ) (ss : List Slip) (i : ℕ) → At (λ (s : Slip). s.says.packet) k ss i → At (λ n. n) k (packets ss) i
+at_numbers k ss i a =
+    let within : i < length (packets ss) = omega (arith, a.within, length-map ss (λ (s : Slip). s.says.packet)) in
+    record {
+      within = within;
+      here = λ d. read_number ss i d within ∙ a.here blank;
+      before = λ j d l e. a.before j blank l (sym (read_number ss j d (omega (arith, l, within))) ∙ e);
+    }
 
-nowhere_numbers : (k : ℕ) (ss : List Slip) → Nowhere slip_packet k ss → Nowhere itself k (packets ss)
-nowhere_numbers k ss h j l e =
-    let j' : j < length ss = omega (arith, l, length-map ss (λ (s : Slip). s.says.packet)) in
-    h j j' (sym (get_or-map (λ (s : Slip). s.says.packet) ss j slip_packet.blank 0 j') ∙ e)
+nowhere_numbers : (k : ℕ) (ss : List Slip) → Nowhere (λ (s : Slip). s.says.packet) k ss → Nowhere (λ n. n) k (packets ss)
+nowhere_numbers k ss h j d l e = h j blank (omega (arith, l, length-map ss (λ (s : Slip). s.says.packet))) (sym (read_number ss j d l) ∙ e)
 
 -- the numbers of what is left after one is taken out
 removed_numbers : (ss : List Slip) (i : ℕ) → packets (remove ss i) ≡ remove (packets ss) i
@@ -47,18 +54,12 @@ pub all_push : (n : ℕ) (ss : List Slip) (s : Slip) → OfLink n ss → s.says.
 all_push n [] s a e = more e none
 all_push n (x ∷ ss) s (more h a) e = more h (all_push n ss s a e)
 
--- any default: what stands within is the same
-same_read : (ss : List Slip) (i : ℕ) (a b : Slip) → i < length ss → get_or ss i a ≡ get_or ss i b
-same_read [] i a b l = absurd (omega arith)
-same_read (x ∷ ss) zero a b l = refl
-same_read (x ∷ ss) (suc i) a b l = same_read ss i a b (omega (arith, l))
-
-pub is_taken : (own number k : ℕ) (ss ss' : List Slip) (i : ℕ) (s : Slip) → number ≡ own → At slip_packet k ss i → s ≡ get_or ss i s → ss' ≡ remove ss i → Taken own number k ss s ss'
+pub is_taken : (own number k : ℕ) (ss ss' : List Slip) (i : ℕ) (s : Slip) → number ≡ own → At (λ (s : Slip). s.says.packet) k ss i → s ≡ get_or ss i s → ss' ≡ remove ss i → Taken own number k ss s ss'
 is_taken own number k ss ss' i s e a r q =
     let at = at_numbers k ss i a in
     record {
       here = e;
-      packet_is = ap (λ (x : Slip). x.says.packet) (r ∙ same_read ss i s slip_packet.blank a.within) ∙ a.here;
+      packet_is = ap (λ (x : Slip). x.says.packet) r ∙ a.here s;
       there = at_among k (packets ss) i at;
       rest = ap packets q ∙ removed_numbers ss i ∙ at_without k (packets ss) i at;
       link_is = λ n o. all_at n ss i s a.within r o;
@@ -68,7 +69,7 @@ is_taken own number k ss ss' i s e a r q =
 pub of_other : (own number k : ℕ) (ss : List Slip) → (number ≡ own → ⊥) → Missing own number k ss OtherLink ss
 of_other own number k ss d = record { refused = λ c m e o. other_link c number k m (λ x. d (x ∙ e)); same = refl }
 
-pub not_in_hand : (own number k : ℕ) (ss : List Slip) → number ≡ own → Nowhere slip_packet k ss → Missing own number k ss NotOut ss
+pub not_in_hand : (own number k : ℕ) (ss : List Slip) → number ≡ own → Nowhere (λ (s : Slip). s.says.packet) k ss → Missing own number k ss NotOut ss
 not_in_hand own number k ss h w = record {
   refused = λ c m e o. not_out c number k m (h ∙ sym e) (ap (among k) (sym o) ∙ nowhere_among k (packets ss) (nowhere_numbers k ss w));
   same = refl;

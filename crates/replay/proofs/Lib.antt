@@ -2,4 +2,3 @@ pub mod Hands
 pub mod Collecting
 pub mod Turning
 pub mod Living
-mod Returning

@@ -1,5 +1,5 @@
 -- A whole life of a link. Assumes nothing.
-use Rattle.std.proofs.Common.{◌≡◌, ℕ, Bool, true, false, cond, leb, List, [], ◌∷◌, ◌++◌, reverse, Ok, Err, Result, sym, refl, ap, ◌∙◌, subst, append_assoc, arith}
+use Rattle.std.proofs.Common.{◌≡◌, ℕ, Bool, true, false, cond, leb, List, [], ◌∷◌, ◌++◌, reverse, Ok, Err, Result, sym, refl, ap, ◌∙◌, subst, append_assoc, arith, IfOk, vec_items}
 use Rattle.waiting_line.specs.declared.pair.Pair.{Pair}
 use Rattle.slot_clock.specs.State.{SlotState}
 use Rattle.tick_machine.specs.declared.refusal.Refusal.{Refusal}
@@ -17,9 +17,10 @@ use Rattle.link.specs.declared.error.MakeError.{MakeError}
 use Rattle.link.specs.declared.error.MakeError.TheVariants as error
 use Rattle.link.specs.Drafting.{Drafts, Makes, Opens}
 use Rattle.link.proofs.Reached.{lawful}
-use Rattle.replay.specs.declared.making.Making.{Making}
+use Rattle.tick_machine.specs.declared.call.Making.{Making}
+use Rattle.replay.specs.declared.played.Played.{Played}
 use Rattle.replay.specs.History.{making_of, adding_answers, life_answers, history_answers, packets, OfLink, Lives, Plays}
-use Rattle.replay.specs.Hand.{Held, Called}
+use Rattle.replay.specs.Hand.{InHand, Held, Called}
 
 -- no adding changes the link's number
 added_link : (r : Result ℕ Refusal) (w : ℕ) (c : Config) → (with_session r w c).link ≡ c.link
@@ -45,7 +46,7 @@ made_link m c h =
 
 -- nothing is in hand when a link is opened
 pub opened_held : {W S : Type 0} {pairs : W → List Pair} {capacity : W → ℕ} {state : S → SlotState} {c : Config} {l : Link W S} {round : ℕ} (ss : List Slip)
-    → Opens pairs capacity state c l round → ss ≡ [] → Held pairs capacity state c [] l ss
+    → Opens pairs capacity state c l round → ss ≡ [] → Held pairs capacity state c [] (record { link = l; slips = ss })
 opened_held {c} ss o e = record { led = o.led; out = ap packets e; own = subst (OfLink c.link) (sym e) none }
 
 -- the answers of a life, put one after the other
@@ -61,14 +62,14 @@ all_told c addings calls number round said₀ said₁ said₂ said₃ said₄ e�
     let q₄ : said₄ ≡ Made number ∷ ((adds ++ Opened round ∷ []) ++ rest) = e₄ ∙ ap (λ (x : List Answer). x ++ rest) q₃ in
     q₄ ∙ ap (λ (x : List Answer). Made number ∷ x) (append_assoc adds (Opened round ∷ []) rest) ∙ (λ k. Made (n k) ∷ (adds ++ Opened (r k) ∷ rest))
 
-pub lives : {W S : Type 0} {pairs : W → List Pair} {capacity : W → ℕ} {state : S → SlotState} {l₀ l : Link W S} {ss : List Slip} (c : Config) (addings : List ℕ) (calls : List Call) (number round : ℕ)
+pub lives : {W S : Type 0} {pairs : W → List Pair} {capacity : W → ℕ} {state : S → SlotState} {l₀ : Link W S} {d : InHand W S} (c : Config) (addings : List ℕ) (calls : List Call) (number round : ℕ)
     (said₀ said₁ said₂ said₃ said₄ : List Answer) → said₀ ≡ [] → said₁ ≡ said₀ ++ Made number ∷ [] → said₂ ≡ said₁ ++ adding_answers c addings → said₃ ≡ said₂ ++ Opened round ∷ [] → number ≡ c.link
-    → Opens pairs capacity state (drafted c addings) l₀ round → Called pairs capacity state (drafted c addings) calls said₃ l ss said₄ → Lives c addings calls said₄ ss
-lives {ss} c addings calls number round said₀ said₁ said₂ said₃ said₄ e₀ e₁ e₂ e₃ n o p = record {
+    → Opens pairs capacity state (drafted c addings) l₀ round → Called pairs capacity state (drafted c addings) calls said₃ d said₄ → Lives c addings calls said₄ d.slips
+lives {d} c addings calls number round said₀ said₁ said₂ said₃ said₄ e₀ e₁ e₂ e₃ n o p = record {
   told = all_told c addings calls number round said₀ said₁ said₂ said₃ said₄ e₀ e₁ e₂ e₃ p.told n o.told;
   lawful = lawful (drafted c addings) p.held.led.drafted (reverse calls);
   out = p.held.out;
-  own = subst (λ (x : ℕ). OfLink x ss) (drafted_link c addings) p.held.own;
+  own = subst (λ (x : ℕ). OfLink x d.slips) (drafted_link c addings) p.held.own;
 }
 
 -- a making that was granted
@@ -114,3 +115,9 @@ refused_plays {W} pairs capacity m e addings calls said₀ said ss x xe h e₀ q
       own = subst (OfLink m.number) (sym n) none;
       none = λ x p. n;
     }
+
+-- where the life of what was made is what is promised, the history is
+pub if_lives : {W E : Type 0} {pairs : W → List Pair} {capacity : W → ℕ} {m : Making} {d : Draft W} (g : Granted pairs capacity m d) (addings : List ℕ) (calls : List Call) (r : Result Played E)
+    → IfOk r (λ p. (c : Config) → Drafts pairs capacity c d → m.number ≡ c.link → Lives c addings calls (vec_items p.answers) (vec_items p.slips)) → IfOk r (λ p. Plays m addings calls (vec_items p.answers) (vec_items p.slips))
+if_lives g addings calls (Ok p) h = plays g addings calls _ _ (h g.config g.drafts g.number)
+if_lives g addings calls (Err e) h = tt

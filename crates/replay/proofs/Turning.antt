@@ -6,11 +6,11 @@ use Rattle.waiting_line.specs.declared.pair.Pair.{Pair}
 use Rattle.slot_clock.specs.State.{SlotState}
 use Rattle.tick_machine.specs.declared.refusal.Refusal.{Refusal}
 use Rattle.tick_machine.specs.declared.call.Call.{Call}
-use Rattle.tick_machine.specs.declared.call.Call.TheVariants.{MoveTo}
+use Rattle.tick_machine.specs.declared.call.Call.TheVariants.{Arrive, MoveTo}
 use Rattle.tick_machine.specs.declared.call.Answer.{Answer}
 use Rattle.tick_machine.specs.declared.call.Answer.TheVariants.{Added}
 use Rattle.tick_machine.specs.Machine.{Config, Machine}
-use Rattle.tick_machine.specs.Life.{adding, added, drafted, told, move, ticked, steps, if_granted, after, answers}
+use Rattle.tick_machine.specs.Life.{adding, added, drafted, told, arrival, move, accepted, ticked, steps, if_granted, after, answers}
 use Rattle.link.specs.declared.draft.Draft.{Draft}
 use Rattle.link.specs.declared.link.Link.{Link}
 use Rattle.link.specs.declared.slip.Slip.{Slip}
@@ -18,7 +18,7 @@ use Rattle.link.specs.Promise.{Goes}
 use Rattle.link.specs.Drafting.{Drafts, Adds}
 use Rattle.link.proofs.Drafts.{drafted_push}
 use Rattle.replay.specs.History.{adding_answers}
-use Rattle.replay.specs.Hand.{Held, Answered, Called, AddedAll}
+use Rattle.replay.specs.Hand.{InHand, Held, Answered, Called, AddedAll}
 
 -- no tick changes which packets are out
 ticks_out : (c : Config) (m : Machine) (k : ℕ) → (steps c (replicate k ticked) m).desk.out ≡ m.desk.out
@@ -29,25 +29,38 @@ move_out : {X : Type 0} (c : Config) (m : Machine) (r : Result X Refusal) (k : �
 move_out c m (Ok x) k = ticks_out c m k
 move_out c m (Err e) k = refl
 
-move_to_out : (c : Config) (calls : List Call) (t : ℕ) → (after c (MoveTo t ∷ calls)).desk.out ≡ (after c calls).desk.out
+pub move_to_out : (c : Config) (calls : List Call) (t : ℕ) → (after c (MoveTo t ∷ calls)).desk.out ≡ (after c calls).desk.out
 move_to_out c calls t = move_out c (after c calls) (move c t (after c calls)) _
 
+arrival_out : {X : Type 0} (c : Config) (m : Machine) (r : Result X Refusal) (i n tag : ℕ) → (steps c (if_granted r (accepted i n tag ∷ [])) m).desk.out ≡ m.desk.out
+arrival_out c m (Ok x) i n tag = refl
+arrival_out c m (Err e) i n tag = refl
+
+pub arrive_out : (c : Config) (calls : List Call) (i n tag : ℕ) → (after c (Arrive i n tag ∷ calls)).desk.out ≡ (after c calls).desk.out
+arrive_out c calls i n tag = arrival_out c (after c calls) (arrival c i n (after c calls)) i n tag
+
 module _ {W S : Type 0} {pairs : W → List Pair} {capacity : W → ℕ} {state : S → SlotState} where
+  -- a call that changes no packet out
+  pub stays : {c : Config} {calls : List Call} {l l' : Link W S} {ss : List Slip} {call : Call} {said : Answer}
+      → Held pairs capacity state c calls (record { link = l; slips = ss }) → Goes pairs capacity state c calls l call said l' → (after c (call ∷ calls)).desk.out ≡ (after c calls).desk.out
+      → Held pairs capacity state c (call ∷ calls) (record { link = l'; slips = ss })
+  stays h g e = record { led = g.led; out = h.out ∙ sym e; own = h.own }
+
   -- a clock move
   pub moved_answered : {c : Config} {calls : List Call} {l l' : Link W S} {ss : List Slip} {call : Call} {t : ℕ} {was said : Answer}
-      → Held pairs capacity state c calls l ss → call ≡ MoveTo t → said ≡ was → Goes pairs capacity state c calls l (MoveTo t) was l' → Answered pairs capacity state c calls call said l' ss
+      → Held pairs capacity state c calls (record { link = l; slips = ss }) → call ≡ MoveTo t → said ≡ was → Goes pairs capacity state c calls l (MoveTo t) was l'
+      → Answered pairs capacity state c calls call said (record { link = l'; slips = ss })
   moved_answered {c} {calls} {l} {l'} {ss} {call} {t} {was} {said} h e q g =
-      subst (λ (x : Call). Answered pairs capacity state c calls x said l' ss) (sym e)
-      (record { held = record { led = g.led; out = h.out ∙ sym (move_to_out c calls t); own = h.own }; told = q ∙ g.told })
+      subst (λ (x : Call). Answered pairs capacity state c calls x said (record { link = l'; slips = ss })) (sym e) (record { held = stays h g (move_to_out c calls t); told = q ∙ g.told })
 
   -- one call more of a list
-  pub called_more : {c : Config} {l l' : Link W S} {ss ss' : List Slip} (cs : List Call) (i : ℕ) (d : Call) → i < length cs → (before xs ys : List Answer) (a : Answer)
-      → Called pairs capacity state c (take i cs) before l ss xs → ys ≡ xs ++ a ∷ [] → Answered pairs capacity state c (reverse (take i cs)) (get_or cs i d) a l' ss'
-      → Called pairs capacity state c (take (i + 1) cs) before l' ss' ys
-  called_more {c} {l} {l'} {ss} {ss'} cs i d h before xs ys a p f g =
-      let r : reverse (take (i + 1) cs) ≡ get_or cs i d ∷ reverse (take i cs) = ap reverse (take_more cs i d h) ∙ reverse-append (take i cs) (get_or cs i d ∷ []) in
+  pub called_more : {c : Config} {d d' : InHand W S} (cs : List Call) (i : ℕ) (z : Call) → i < length cs → (before xs ys : List Answer) (a : Answer)
+      → Called pairs capacity state c (take i cs) before d xs → ys ≡ xs ++ a ∷ [] → Answered pairs capacity state c (reverse (take i cs)) (get_or cs i z) a d'
+      → Called pairs capacity state c (take (i + 1) cs) before d' ys
+  called_more {c} {d} {d'} cs i z h before xs ys a p f g =
+      let r : reverse (take (i + 1) cs) ≡ get_or cs i z ∷ reverse (take i cs) = ap reverse (take_more cs i z h) ∙ reverse-append (take i cs) (get_or cs i z ∷ []) in
       record {
-        held = subst (λ (x : List Call). Held pairs capacity state c x l' ss') (sym r) g.held;
+        held = subst (λ (x : List Call). Held pairs capacity state c x d') (sym r) g.held;
         told = f ∙ (λ k. p.told k ++ g.told k ∷ []) ∙ append_assoc before (answers c (reverse (take i cs))) _ ∙ ap (λ (x : List Call). before ++ answers c x) (sym r);
       }
 

@@ -1,5 +1,5 @@
 -- An open link together with the slips in hand, those that it handed out and that are not settled. Assumes nothing.
-use Rattle.std.specs.Prelude.{◌≡◌, ℕ, true, List, [], ◌∷◌, ◌++◌, reverse, Err}
+use Rattle.std.specs.Prelude.{◌≡◌, ℕ, true, List, ◌∷◌, ◌++◌, reverse, Err}
 use Rattle.waiting_line.specs.declared.pair.Pair.{Pair}
 use Rattle.slot_clock.specs.State.{SlotState}
 use Rattle.tick_machine.specs.declared.refusal.Refusal.{Refusal}
@@ -11,17 +11,14 @@ use Rattle.tick_machine.specs.Life.{drafted, settlement, answer, after, answers}
 use Rattle.link.specs.declared.draft.Draft.{Draft}
 use Rattle.link.specs.declared.link.Link.{Link}
 use Rattle.link.specs.declared.slip.Slip.{Slip}
-use Rattle.link.specs.Places.{Numbered}
 use Rattle.link.specs.Promise.{Led}
 use Rattle.link.specs.Drafting.{Drafts}
 use Rattle.replay.specs.History.{adding_answers, packets, OfLink}
 
--- slips by the numbers of their packets
-abbrev pub slip_packet : Numbered Slip
-slip_packet = record {
-  number = λ s. s.says.packet;
-  blank = record { says = record { link = 0; packet = 0; session = 0; size = 0; tag = 0; started = 0; left = 0 } };
-}
+-- a link and the slips in hand
+pub record InHand (W S : Type 0) : Type 0 where
+  pub link : Link W S
+  pub slips : List Slip
 
 -- the slip of that link number and packet number was taken from those in hand of the link `own`, and the others stay in their order
 pub record Taken (own number packet : ℕ) (slips : List Slip) (s : Slip) (slips' : List Slip) : Type 0 where
@@ -39,32 +36,28 @@ pub record Missing (own number packet : ℕ) (slips : List Slip) (e : Refusal) (
 
 module _ {W S : Type 0} (pairs : W → List Pair) (capacity : W → ℕ) (state : S → SlotState) where
   -- these calls, the latest first, led to this link, and the slips in hand are those of the packets out
-  pub record Held (c : Config) (calls : List Call) (l : Link W S) (slips : List Slip) : Type 0 where
-    pub led : Led pairs capacity state c calls l
-    pub out : packets slips ≡ (after c calls).desk.out
-    pub own : OfLink c.link slips
+  pub record Held (c : Config) (calls : List Call) (d : InHand W S) : Type 0 where
+    pub led : Led pairs capacity state c calls d.link
+    pub out : packets d.slips ≡ (after c calls).desk.out
+    pub own : OfLink c.link d.slips
 
   -- a call after those calls: it leads to this link with these slips in hand, and is answered as the tick machine answers it
-  pub record Answered (c : Config) (calls : List Call) (call : Call) (said : Answer) (l : Link W S) (slips : List Slip) : Type 0 where
-    pub held : Held c (call ∷ calls) l slips
+  pub record Answered (c : Config) (calls : List Call) (call : Call) (said : Answer) (d : InHand W S) : Type 0 where
+    pub held : Held c (call ∷ calls) d
     pub told : said ≡ answer c (after c calls) call
 
   -- some history led here
-  abbrev pub Reached : Link W S → List Slip → Type 0
-  Reached l slips = (c : Config) × ((calls : List Call) × Held c calls l slips)
+  abbrev pub Reached : InHand W S → Type 0
+  Reached d = (c : Config) × ((calls : List Call) × Held c calls d)
 
-  -- whatever history led to the link l with those slips, the call after it is answered so
-  abbrev pub Answers : Link W S → List Slip → Call → Answer → Link W S → List Slip → Type 0
-  Answers l slips call said l' slips' = (c : Config) (calls : List Call) → Held c calls l slips → Answered c calls call said l' slips'
+  -- whatever history led to the link and the slips of d, the call after it is answered so
+  abbrev pub Answers : InHand W S → Call → Answer → InHand W S → Type 0
+  Answers d call said d' = (c : Config) (calls : List Call) → Held c calls d → Answered c calls call said d'
 
   -- calls that were made one after the other on a link just opened: the link and the slips after them, and their answers after those before
-  pub record Called (c : Config) (calls : List Call) (before : List Answer) (l : Link W S) (slips : List Slip) (said : List Answer) : Type 0 where
-    pub held : Held c (reverse calls) l slips
+  pub record Called (c : Config) (calls : List Call) (before : List Answer) (d : InHand W S) (said : List Answer) : Type 0 where
+    pub held : Held c (reverse calls) d
     pub told : said ≡ before ++ answers c (reverse calls)
-
-  -- some draft was opened as this link
-  abbrev pub Fresh : Link W S → List Slip → Type 0
-  Fresh l slips = (c : Config) × Held c [] l slips
 
 -- addings that were made one after the other on a draft: the draft after them, and their answers after those before
 pub record AddedAll {W : Type 0} (pairs : W → List Pair) (capacity : W → ℕ) (c : Config) (addings : List ℕ) (before : List Answer) (d : Draft W) (said : List Answer) : Type 0 where

@@ -10,7 +10,7 @@ use Rattle.tick_machine.specs.Machine.{Config}
 use Rattle.tick_machine.specs.Life.{made, adding, added, drafted, told, after, answers}
 use Rattle.tick_machine.specs.Law.{Lawful}
 use Rattle.link.specs.declared.slip.Slip.{Slip}
-use Rattle.replay.specs.declared.making.Making.{Making}
+use Rattle.tick_machine.specs.declared.call.Making.{Making}
 
 -- what a making makes, or why it is refused
 abbrev pub making_of : Making → Result Config Refusal

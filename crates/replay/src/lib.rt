@@ -2,8 +2,7 @@
 
 #![tactic(auto)]
 
-pub mod hand;
-pub mod making;
+pub mod adding;
+pub mod desk;
 pub mod play;
 pub mod played;
-pub mod turns;

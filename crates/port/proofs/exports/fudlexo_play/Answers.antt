@@ -1,8 +1,9 @@
-use Rattle.port.specs.Preparing.{prepared}
-use Rattle.port.proofs.Reporting.{not_played}
+use Rattle.std.proofs.Common.{drop}
+use Rattle.tick_machine.specs.Life.{made}
+use Rattle.port.specs.Preparing.{first_weight}
+use Rattle.port.proofs.Drawing.{not_played}
 use Rattle.port.proofs.exports.fudlexo_play.Goals as goal
 
-pub returns-else-play : goal.returns-else-play
-returns-else-play c =
-    not_played (prepared c.args.number c.args.largest c.args.capacity c.args.weights.now) c.in-Ok.draft c.args.calls.now c.args.answers.now c.play.new.answers c.play.result c.in-Ok.ensures c.if-play.false
-    c.play.ensures
+pub returns-in-Err : goal.returns-in-Err
+returns-in-Err c =
+    not_played _ _ c.in-Ok.draft c.args.calls.now c.args.answers.now c.play.new.answers c.in-Err.ensures (made c.args.number c.args.largest c.args.capacity (first_weight c.args.weights.now)) (drop 1 c.args.weights.now) c.in-Ok.ensures

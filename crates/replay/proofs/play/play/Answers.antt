@@ -1,12 +1,13 @@
-use Rattle.replay.proofs.Living.{granted, plays, refused_plays}
+use Rattle.std.proofs.Common.{vec_items, rules}
+use Rattle.replay.proofs.Living.{granted, if_lives, refused_plays}
 use Rattle.replay.proofs.play.play.Goals as goal
 
-pub returns-in_ok-slips-in-Ok : goal.returns-in_ok-slips-in-Ok
-returns-in_ok-slips-in-Ok g c =
-    let made = granted g.W.WaitingLine.pairs g.W.WaitingLine.capacity c.args.making c.in-Ok.draft c.in-Ok.ensures in
-    plays made c.args.addings.now c.args.calls.now _ _ (c.live-played.ensures made.config made.drafts made.number)
+pub returns-in-Ok : goal.returns-in-Ok
+returns-in-Ok g c =
+    if_lives (granted g.W.WaitingLine.pairs g.W.WaitingLine.capacity c.args.making c.in-Ok.draft c.in-Ok.ensures) c.args.addings.now c.args.calls.now c.live.result c.live.ensures
 
-pub returns-in-Refused : goal.returns-in-Refused
-returns-in-Refused g c =
-    refused_plays g.W.WaitingLine.pairs g.W.WaitingLine.capacity c.args.making c.in-Refused.refusal c.args.addings.now c.args.calls.now _ _ _ c.in-Err.e c.in-Refused.is c.in-Err.ensures
-    c.in_ok-answers.ensures.0 c.push_reserved.ensures.items c.new-slips.ensures.items
+pub returns-in-Err-Refused : goal.returns-in-Err-Refused
+returns-in-Err-Refused g c =
+    let put = c.push_reserved.ensures.items in
+    refused_plays g.W.WaitingLine.pairs g.W.WaitingLine.capacity c.args.making c.in-Err-Refused.refusal c.args.addings.now c.args.calls.now _ (vec_items c.push_reserved.new.self) _ c.in-Err-Refused.field-0 c.in-Err-Refused.field-0-is
+    c.in-Err-Refused.ensures c.in_ok-answers.ensures.items (search rules) c.new-slips.ensures.items

@@ -1,0 +1,169 @@
+// A desk: an open link together with the slips in hand, those that it has handed out and that are not settled yet.
+ghost use Rattle.std.specs.Prelude.{◌≡◌, ◌+◌, ◌≤◌, [], length, vec_len, vec_capacity, IfOk, MatchResult};
+ghost use Rattle.tick_machine.specs.declared.call.Call.TheVariants.{Collect};
+ghost use Rattle.tick_machine.specs.Machine.{Config};
+ghost use Rattle.tick_machine.specs.Life.{settling, granted};
+ghost use Rattle.link.specs.Drafting.{Drafts, Opens};
+ghost use Rattle.replay.specs.Hand.{Taken, Missing, Held, Answers, Called};
+
+use link::draft::Draft;
+use link::link::Link;
+use link::slip::Slip;
+use link::table::place;
+use slot_clock::clock::SlotClock;
+use std::alloc::{AllocError, Global};
+use std::marker::Model;
+use tick_machine::call::{Answer, Call, Settlement};
+use tick_machine::refusal::Refusal;
+use waiting_line::line::WaitingLine;
+
+pub struct Desk<W: WaitingLine, S: SlotClock> {
+    link: Link<W, S>,
+    slips: Vec<Slip>,
+}
+
+// Some history led to the link and the slips, and there is room for as many slips as can be out.
+impl<W: WaitingLine, S: SlotClock> Model for Desk<W, S> {
+    ghost use Rattle.std.specs.Prelude.{◌≤◌, vec_capacity};
+    ghost use Rattle.replay.specs.Hand.{InHand, Reached};
+
+    ghost Value = { InHand W S };
+
+    ghost view = { λ d. record { link = d.link; slips = d.slips.items } };
+
+    ghost invariant = { λ d. Reached W.WaitingLine.pairs W.WaitingLine.capacity S.SlotClock.state (record { link = d.link; slips = d.slips.items }) × (1024 ≤ vec_capacity d.slips) };
+}
+
+// How many packets may be out at once.
+const UNSETTLED: usize = 1024;
+
+// Takes the slip of that link number and packet number from those in hand of the link `own`, or says why there is none.
+fn take(own: u64, slips: &mut Vec<Slip>, number: u64, packet: u64) -> Result<Slip, Refusal>
+    ensures found { MatchResult result (λ s. Taken own number packet slips.old.items s slips.new.items) (λ e. Missing own number packet slips.old.items e slips.new.items) }
+    ensures room { vec_capacity slips.new ≡ vec_capacity slips.old }
+{
+    if number != own {
+        return Err(Refusal::OtherLink);
+    }
+    match place(slips, packet) {
+        Some(i) => Ok(slips.remove(i)),
+        None => Err(Refusal::NotOut),
+    }
+}
+
+// What is answered to a settlement that is granted.
+fn granted(how: Settlement, packet: u64) -> Answer
+    ensures { result ≡ granted how packet }
+{
+    match how {
+        Settlement::File => Answer::Filed(packet),
+        Settlement::Return => Answer::Returned(packet),
+    }
+}
+
+impl<W: WaitingLine, S: SlotClock> Desk<W, S> {
+    // Opens the draft, with no slip in hand; and the number of slots in a round.
+    pub fn open(heap: Global, draft: Draft<W>) -> Result<(Desk<W, S>, u64), AllocError>
+    where
+        W: Drop,
+        requires { (c : Config) × Drafts W.WaitingLine.pairs W.WaitingLine.capacity c draft }
+        ensures opened { IfOk result (λ r. (c : Config) → Drafts W.WaitingLine.pairs W.WaitingLine.capacity c draft → Opens W.WaitingLine.pairs W.WaitingLine.capacity S.SlotClock.state c r.0.link r.1) }
+        ensures none { IfOk result (λ r. r.0.slips ≡ []) }
+    {
+        let slips = Vec::with_capacity(heap, UNSETTLED)?;
+        let (link, round) = draft.open();
+        Ok((Desk { link, slips }, round))
+    }
+
+    // The slips in hand. The link is let go.
+    pub fn into_slips(self) -> Vec<Slip>
+    where
+        W: Drop,
+        S: Drop,
+        ensures { result.items ≡ self.slips }
+    {
+        let Desk { link: _, slips } = self;
+        slips
+    }
+
+    // A collection: the slip that is handed out comes into hand.
+    pub fn collect(&mut self) -> Answer
+        ensures { Answers W.WaitingLine.pairs W.WaitingLine.capacity S.SlotClock.state self.old Collect result self.new }
+    {
+        match self.link.collect() {
+            Some(slip) => {
+                let says = slip.copy();
+                self.slips.push_reserved(slip);
+                Answer::Collected(Some(says))
+            }
+            None => Answer::Collected(None),
+        }
+    }
+
+    // The slip of that link number and packet number is settled so. A slip in hand is never refused.
+    pub fn settle(&mut self, how: Settlement, number: u64, packet: u64) -> Answer
+        ensures { Answers W.WaitingLine.pairs W.WaitingLine.capacity S.SlotClock.state self.old (settling how number packet) result self.new }
+    {
+        match take(self.link.number(), &mut self.slips, number, packet) {
+            Ok(slip) => match self.link.settle(slip, how) {
+                Ok(settled) => granted(how, settled),
+                Err(_refused) => unreachable(),
+            },
+            Err(e) => Answer::Refused(e),
+        }
+    }
+
+    // A call of the link.
+    pub fn answer(&mut self, call: Call) -> Answer
+        ensures { Answers W.WaitingLine.pairs W.WaitingLine.capacity S.SlotClock.state self.old call result self.new }
+    {
+        match call {
+            Call::Arrive(session, size, tag) => self.link.arrive(session, size, tag).map_or_else(
+                Answer::Refused,
+                |(number, stamp, latest)| Answer::Accepted(number, stamp, latest),
+            ),
+            Call::MoveTo(tick) => self
+                .link
+                .move_to(tick)
+                .map_or_else(Answer::Refused, |left| Answer::Moved(tick, left)),
+            Call::Collect => self.collect(),
+            Call::File(number, packet) => self.settle(Settlement::File, number, packet),
+            Call::Return(number, packet) => self.settle(Settlement::Return, number, packet),
+            Call::AskFigures(session) => self
+                .link
+                .figures(session)
+                .map_or_else(Answer::Refused, Answer::FiguresAre),
+            Call::AskTotals => Answer::TotalsAre(self.link.totals()),
+        }
+    }
+
+    // Every call, in order, of a link just opened: their answers come after those that are there.
+    pub fn call_all(&mut self, calls: &[Call], answers: &mut Vec<Answer>)
+        requires { vec_len answers.old + length calls.now ≤ vec_capacity answers.old }
+        ensures { (c : Config) → Held W.WaitingLine.pairs W.WaitingLine.capacity S.SlotClock.state c [] self.old → Called W.WaitingLine.pairs W.WaitingLine.capacity S.SlotClock.state c calls.now answers.old.items self.new answers.new.items }
+    {
+        for call in calls {
+            answers.push_reserved(self.answer(*call));
+        }
+    }
+
+    // Every slip in hand is returned.
+    pub fn return_all(&mut self)
+        ensures { self.new.slips ≡ [] }
+    {
+        while let Some(slip) = self.slips.first() {
+            let says = slip.copy();
+            let _ = self.settle(Settlement::Return, says.link, says.packet);
+        }
+    }
+
+    // Every slip in hand is returned, and the link is let go.
+    pub fn close(mut self)
+    where
+        W: Drop,
+        S: Drop,
+    {
+        self.return_all();
+        self.into_slips().destroy_empty();
+    }
+}

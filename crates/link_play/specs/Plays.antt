@@ -1,5 +1,7 @@
 -- What a step does at a link that some history led to. Assumes nothing.
 use Rattle.std.specs.Prelude.{◌≡◌, ℕ, List, [], ◌∷◌, ◌++◌, Some, None, Ok, Err, Option, Result}
+use Rattle.waiting_line.specs.declared.line.WaitingLine.{Ghosts as WaitingLine}
+use Rattle.slot_clock.specs.declared.clock.SlotClock.{Ghosts as SlotClock}
 use Rattle.waiting_line.specs.declared.pair.Pair.{Pair}
 use Rattle.slot_clock.specs.State.{SlotState}
 use Rattle.tick_machine.specs.declared.packet.SlipCopy.{SlipCopy}
@@ -59,29 +61,29 @@ abbrev pub history_replies : ℕ → Result Config Refusal → List ℕ → List
 history_replies number (Ok c) ws steps = Made number ∷ draft_replies c ws steps
 history_replies number (Err e) ws steps = Refused e ∷ []
 
-module _ {W S : Type 0} (pairs : W → List Pair) (capacity : W → ℕ) (state : S → SlotState) where
+module _ {W S : Type 0} (line : WaitingLine W) (clock : SlotClock S) where
   -- after those calls, the next slip was taken and settled so, or none was there
   pub record Spent (how : Settlement) (c : Config) (calls : List Call) (said : Answer) (d' : InHand W S) : Type 0 where
     pub told : said ≡ Collected (next_slip c (after c calls))
-    pub held : Held pairs capacity state c (spending (settling how) (next_slip c (after c calls)) ++ calls) d'
+    pub held : Held line clock c (spending (settling how) (next_slip c (after c calls)) ++ calls) d'
 
   abbrev pub Spends : Settlement → InHand W S → Answer → InHand W S → Type 0
-  Spends how d said d' = (c : Config) (calls : List Call) → Held pairs capacity state c calls d → Spent how c calls said d'
+  Spends how d said d' = (c : Config) (calls : List Call) → Held line clock c calls d → Spent how c calls said d'
 
   -- after those calls, a step was answered as the tick machine answers it, and its calls led on
   pub record Played (step : Step) (c : Config) (calls : List Call) (said : Answer) (d' : InHand W S) : Type 0 where
     pub told : said ≡ answer c (after c calls) (asked step)
-    pub held : Held pairs capacity state c (calls_of c (after c calls) step ++ calls) d'
+    pub held : Held line clock c (calls_of c (after c calls) step ++ calls) d'
 
   abbrev pub Plays : Step → InHand W S → Answer → InHand W S → Type 0
-  Plays step d said d' = (c : Config) (calls : List Call) → Held pairs capacity state c calls d → Played step c calls said d'
+  Plays step d said d' = (c : Config) (calls : List Call) → Held line clock c calls d → Played step c calls said d'
 
   -- some steps were played: the calls that led here, and what is still to be answered for the others
   pub record Playing (c : Config) (calls : List Call) (steps : List Step) (before : List Answer) (rest : List Step) (behind : List Answer) (d : InHand W S) : Type 0 where
     pub since : List Call
-    pub held : Held pairs capacity state c since d
+    pub held : Held line clock c since d
     pub tells : behind ++ replies c since rest ≡ before ++ replies c calls steps
 
   -- all steps were played
   abbrev pub Answered : InHand W S → List Step → List Answer → List Answer → Type 0
-  Answered d steps before behind = (c : Config) (calls : List Call) → Held pairs capacity state c calls d → behind ≡ before ++ replies c calls steps
+  Answered d steps before behind = (c : Config) (calls : List Call) → Held line clock c calls d → behind ≡ before ++ replies c calls steps

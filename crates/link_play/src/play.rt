@@ -17,7 +17,7 @@ use waiting_line::line::WaitingLine;
 
 // The slip of the next packet that has left is taken, and settled so: the answer to the taking.
 fn take_and_settle<W: WaitingLine, S: SlotClock>(desk: &mut Desk<W, S>, how: Settlement) -> Answer
-    ensures { Spends W.WaitingLine.pairs W.WaitingLine.capacity S.SlotClock.state how desk.old result desk.new }
+    ensures { Spends W.WaitingLine S.SlotClock how desk.old result desk.new }
 {
     let taken = desk.collect();
     if let Answer::Collected(Some(says)) = taken {
@@ -28,7 +28,7 @@ fn take_and_settle<W: WaitingLine, S: SlotClock>(desk: &mut Desk<W, S>, how: Set
 
 // One step.
 fn play<W: WaitingLine, S: SlotClock>(desk: &mut Desk<W, S>, step: Step) -> Answer
-    ensures { Plays W.WaitingLine.pairs W.WaitingLine.capacity S.SlotClock.state step desk.old result desk.new }
+    ensures { Plays W.WaitingLine S.SlotClock step desk.old result desk.new }
 {
     match step {
         Step::Arrive(session, size, tag) => desk.answer(Call::Arrive(session, size, tag)),
@@ -47,7 +47,7 @@ fn play_all<W: WaitingLine, S: SlotClock>(
     answers: &mut Vec<Answer>,
 )
     requires { vec_len answers.old + length steps.now ≤ vec_capacity answers.old }
-    ensures { Answered W.WaitingLine.pairs W.WaitingLine.capacity S.SlotClock.state desk.old steps.now answers.old.items answers.new.items }
+    ensures { Answered W.WaitingLine S.SlotClock desk.old steps.now answers.old.items answers.new.items }
 {
     for step in steps {
         answers.push_reserved(play(desk, *step));
@@ -62,9 +62,9 @@ fn play_draft<W: WaitingLine + Drop, S: SlotClock + Drop>(
     steps: &[Step],
     answers: &mut Vec<Answer>,
 ) -> Result<(), AllocError>
-    requires drafts { (c : Config) × Drafts W.WaitingLine.pairs W.WaitingLine.capacity c draft }
+    requires drafts { (c : Config) × Drafts W.WaitingLine c draft }
     requires room { vec_len answers.old + length weights.now + length steps.now + 1 ≤ vec_capacity answers.old }
-    ensures { OnOk result ((c : Config) → Drafts W.WaitingLine.pairs W.WaitingLine.capacity c draft → answers.new.items ≡ answers.old.items ++ draft_replies c weights.now steps.now) }
+    ensures { OnOk result ((c : Config) → Drafts W.WaitingLine c draft → answers.new.items ≡ answers.old.items ++ draft_replies c weights.now steps.now) }
 {
     add_all(&mut draft, weights, answers);
     let (mut desk, round) = Desk::<W, S>::open(heap, draft)?;

@@ -1,6 +1,8 @@
 -- A slip just handed out can be filed at its own link. Assumes nothing.
 use Rattle.std.proofs.Common.{◌≡◌, ℕ, true, List, [], ◌∷◌, ◌++◌, Some, Ok, Err, Result, refl, ap, ◌∙◌, arith}
 use Rattle.std.proofs.lemmas.Bool.{eq-eqb, or_left, or_right}
+use Rattle.waiting_line.specs.declared.line.WaitingLine.{Ghosts as WaitingLine}
+use Rattle.slot_clock.specs.declared.clock.SlotClock.{Ghosts as SlotClock}
 use Rattle.waiting_line.specs.declared.pair.Pair.{Pair}
 use Rattle.slot_clock.specs.State.{SlotState}
 use Rattle.tick_machine.specs.declared.refusal.Refusal.{Refusal}
@@ -32,13 +34,13 @@ handed_last link out says (d ∷ ds) e =
 not_refused : (e : Refusal) (n : ℕ) → Refused e ≡ Filed n → ⊥
 not_refused e n h = let z : ◌≡◌ {A = ℕ} 0 1 = cc in omega arith
 
-pub filing_granted : {W S : Type 0} {pairs : W → List Pair} {capacity : W → ℕ} {state : S → SlotState} {c : Config} {calls : List Call} {l l' l'' : Link W S} (s : Slip) (e : Refusal)
-    → Goes pairs capacity state c calls l Collect (collected_as (Some s)) l' → Goes pairs capacity state c (Collect ∷ calls) l' (File s.says.link s.says.packet) (Refused e) l'' → ⊥
+pub filing_granted : {W S : Type 0} {line : WaitingLine W} {clock : SlotClock S} {c : Config} {calls : List Call} {l l' l'' : Link W S} (s : Slip) (e : Refusal)
+    → Goes line clock c calls l Collect (collected_as (Some s)) l' → Goes line clock c (Collect ∷ calls) l' (File s.says.link s.says.packet) (Refused e) l'' → ⊥
 filing_granted {c} {calls} s e g h =
     let p = handed_last c.link (after c calls).desk.out s.says (after c calls).desk.left g.told in
     not_refused e s.says.packet (h.told ∙ ap (told Filed) (is_out c s.says.link s.says.packet (after c (Collect ∷ calls)) p.0 p.1))
 
 -- a making that gave a draft
-pub drafts_some : {W : Type 0} (pairs : W → List Pair) (capacity : W → ℕ) (x : Result Config Refusal) (d : Draft W) → Makes pairs capacity x (Ok d) → (c : Config) × Drafts pairs capacity c d
-drafts_some pairs capacity (Ok c) d h = (c, h)
-drafts_some pairs capacity (Err e) d h = absurd h
+pub drafts_some : {W : Type 0} (line : WaitingLine W) (x : Result Config Refusal) (d : Draft W) → Makes line x (Ok d) → (c : Config) × Drafts line c d
+drafts_some line (Ok c) d h = (c, h)
+drafts_some line (Err e) d h = absurd h

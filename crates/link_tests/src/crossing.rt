@@ -32,7 +32,7 @@ impl<W: WaitingLine, S: SlotClock> Model for Open<W, S> {
 
     ghost view = { λ o. o.link };
 
-    ghost invariant = { λ o. (c : Config) × ((calls : List Call) × Led W.WaitingLine.pairs W.WaitingLine.capacity S.SlotClock.state c calls o.link) };
+    ghost invariant = { λ o. (c : Config) × ((calls : List Call) × Led W.WaitingLine S.SlotClock c calls o.link) };
 }
 
 impl<W: WaitingLine, S: SlotClock> Open<W, S> {

@@ -1,5 +1,6 @@
 -- A making with all its weights in one list. Assumes nothing.
 use Rattle.std.specs.Prelude.{◌≡◌, ℕ, List, [], ◌∷◌, Ok, Err, Result}
+use Rattle.waiting_line.specs.declared.line.WaitingLine.{Ghosts as WaitingLine}
 use Rattle.waiting_line.specs.declared.pair.Pair.{Pair}
 use Rattle.tick_machine.specs.declared.refusal.Refusal.{Refusal}
 use Rattle.tick_machine.specs.Machine.{Config}
@@ -24,17 +25,17 @@ abbrev pub all_added : Config → List ℕ → Result Config Refusal
 all_added c [] = Ok c
 all_added c (w ∷ ws) = if_added (adding c w) (all_added (added c w) ws)
 
-module _ {W : Type 0} (pairs : W → List Pair) (capacity : W → ℕ) where
+module _ {W : Type 0} (line : WaitingLine W) where
   -- addings to a draft: the draft of what is drafted, or the first refusal
   abbrev pub AddsAll : Result Config Refusal → Result (Unit {0}) Refusal → Draft W → Type 0
-  AddsAll (Ok c) (Ok u) d = Drafts pairs capacity c d
+  AddsAll (Ok c) (Ok u) d = Drafts line c d
   AddsAll (Ok c) (Err e) d = ⊥
   AddsAll (Err x) (Ok u) d = ⊥
   AddsAll (Err x) (Err e) d = e ≡ x
 
   -- addings to what was made: a draft of what is drafted, or the first refusal; or there is no memory
   abbrev pub Draws : Result Config Refusal → Result (Draft W) MakeError → Type 0
-  Draws (Ok c) (Ok d) = Drafts pairs capacity c d
+  Draws (Ok c) (Ok d) = Drafts line c d
   Draws (Err x) (Ok d) = ⊥
   Draws (Ok c) (Err (Refused e)) = ⊥
   Draws (Err x) (Err (Refused e)) = e ≡ x

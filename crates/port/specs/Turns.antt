@@ -1,5 +1,7 @@
 -- Calls that come as records, one after the other on an open link. Assumes nothing.
 use Rattle.std.specs.Prelude.{◌≡◌, ℕ, List, [], ◌∷◌, take, drop, Some, None, Option}
+use Rattle.waiting_line.specs.declared.line.WaitingLine.{Ghosts as WaitingLine}
+use Rattle.slot_clock.specs.declared.clock.SlotClock.{Ghosts as SlotClock}
 use Rattle.waiting_line.specs.declared.pair.Pair.{Pair}
 use Rattle.slot_clock.specs.State.{SlotState}
 use Rattle.tick_machine.specs.declared.call.Call.{Call}
@@ -30,18 +32,18 @@ abbrev pub replies : Config → List Call → List CallRecord → List AnswerRec
 replies c done [] = []
 replies c done (r ∷ rs) = reply c done (call_in r) ∷ replies c (grown done (call_in r)) rs
 
-module _ {W S : Type 0} (pairs : W → List Pair) (capacity : W → ℕ) (state : S → SlotState) where
+module _ {W S : Type 0} (line : WaitingLine W) (clock : SlotClock S) where
   -- a record after those calls: the reply, and the link and the slips in hand after it
   pub record Turned (c : Config) (done : List Call) (r : CallRecord) (said : AnswerRecord) (d : InHand W S) : Type 0 where
-    pub held : Held pairs capacity state c (grown done (call_in r)) d
+    pub held : Held line clock c (grown done (call_in r)) d
     pub told : said ≡ reply c done (call_in r)
 
   -- whatever history led to the link with those slips
   abbrev pub Turns : InHand W S → CallRecord → AnswerRecord → InHand W S → Type 0
-  Turns d r said d' = (c : Config) (done : List Call) → Held pairs capacity state c done d → Turned c done r said d'
+  Turns d r said d' = (c : Config) (done : List Call) → Held line clock c done d → Turned c done r said d'
 
   -- so many records on a link just opened: their replies stand in the first places, and the other places are as they were
   pub record TurnedAll (c : Config) (n : ℕ) (rs : List CallRecord) (was said : List AnswerRecord) (d : InHand W S) : Type 0 where
-    pub held : Held pairs capacity state c (grown_by [] (take n rs)) d
+    pub held : Held line clock c (grown_by [] (take n rs)) d
     pub told : take n said ≡ replies c [] (take n rs)
     pub rest : drop n said ≡ drop n was

@@ -30,8 +30,8 @@ fn play<W: WaitingLine + Drop, S: SlotClock + Drop>(
     calls: &[CallRecord],
     answers: &mut [AnswerRecord],
 ) -> Result<(), AllocError>
-    requires { (c : Config) × Drafts W.WaitingLine.pairs W.WaitingLine.capacity c draft }
-    ensures { (c : Config) → Drafts W.WaitingLine.pairs W.WaitingLine.capacity c draft → Plays c calls.now answers.old answers.new result }
+    requires { (c : Config) × Drafts W.WaitingLine c draft }
+    ensures { (c : Config) → Drafts W.WaitingLine c draft → Plays c calls.now answers.old answers.new result }
 {
     let (mut desk, _) = Desk::<W, S>::open(heap, draft)?;
     turn_all(&mut desk, calls, answers);
@@ -46,7 +46,7 @@ fn open_and_serve<W: WaitingLine + Drop, S: SlotClock + Drop>(
     requests: i32,
     answers: i32,
 ) -> Result<(), Unwritten>
-    requires { (c : Config) × Drafts W.WaitingLine.pairs W.WaitingLine.capacity c draft }
+    requires { (c : Config) × Drafts W.WaitingLine c draft }
 {
     let Ok((mut desk, round)) = Desk::<W, S>::open(heap, draft) else {
         return write_answer(answers, AnswerRecord::no_memory());

@@ -25,7 +25,7 @@ fn parts_of(weights: &[u64]) -> (u64, &[u64])
 
 // One adding after the other, up to the first that is refused.
 fn add_all<W: WaitingLine>(draft: &mut Draft<W>, weights: &[u64]) -> Result<(), Refusal>
-    ensures { (c : Config) → Drafts W.WaitingLine.pairs W.WaitingLine.capacity c draft.old → AddsAll W.WaitingLine.pairs W.WaitingLine.capacity (all_added c weights.now) result draft.new }
+    ensures { (c : Config) → Drafts W.WaitingLine c draft.old → AddsAll W.WaitingLine (all_added c weights.now) result draft.new }
 {
     for weight in weights {
         draft.add(*weight)?;
@@ -41,7 +41,7 @@ pub fn prepare<W: WaitingLine + Drop>(
     capacity: u64,
     weights: &[u64],
 ) -> Result<Draft<W>, MakeError>
-    ensures { Prepares W.WaitingLine.pairs W.WaitingLine.capacity (made number largest capacity (first_weight weights.now)) (drop 1 weights.now) result }
+    ensures { Prepares W.WaitingLine (made number largest capacity (first_weight weights.now)) (drop 1 weights.now) result }
 {
     let (weight, others) = parts_of(weights);
     let making = Making {

@@ -12,7 +12,7 @@ use waiting_line::line::WaitingLine;
 
 // One record. What is no call changes nothing.
 pub fn turn<W: WaitingLine, S: SlotClock>(desk: &mut Desk<W, S>, asked: CallRecord) -> AnswerRecord
-    ensures { Turns W.WaitingLine.pairs W.WaitingLine.capacity S.SlotClock.state desk.old asked result desk.new }
+    ensures { Turns W.WaitingLine S.SlotClock desk.old asked result desk.new }
 {
     match Call::try_from(asked) {
         Ok(call) => desk.answer(call).into(),
@@ -26,7 +26,7 @@ pub fn turn_all<W: WaitingLine, S: SlotClock>(
     calls: &[CallRecord],
     answers: &mut [AnswerRecord],
 )
-    ensures { (c : Config) → Held W.WaitingLine.pairs W.WaitingLine.capacity S.SlotClock.state c [] desk.old → TurnedAll W.WaitingLine.pairs W.WaitingLine.capacity S.SlotClock.state c (min (length calls.now) (length answers.old)) calls.now answers.old answers.new desk.new }
+    ensures { (c : Config) → Held W.WaitingLine S.SlotClock c [] desk.old → TurnedAll W.WaitingLine S.SlotClock c (min (length calls.now) (length answers.old)) calls.now answers.old answers.new desk.new }
 {
     let count = calls.len().min(answers.len());
     for i in 0..count {

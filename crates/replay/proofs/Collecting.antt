@@ -2,8 +2,8 @@
 use Rattle.std.proofs.Common.{◌≡◌, ℕ, ◌+◌, ◌≤◌, List, [], ◌∷◌, ◌++◌, length, Some, None, sym, refl, ap, ◌∙◌, subst, arith}
 use lib.ListN.{length-map}
 use Rattle.std.proofs.lemmas.List.{map_push, length_push}
-use Rattle.waiting_line.specs.declared.pair.Pair.{Pair}
-use Rattle.slot_clock.specs.State.{SlotState}
+use Rattle.waiting_line.specs.declared.line.WaitingLine.{Ghosts as WaitingLine}
+use Rattle.slot_clock.specs.declared.clock.SlotClock.{Ghosts as SlotClock}
 use Rattle.tick_machine.specs.declared.packet.Departed.{Departed}
 use Rattle.tick_machine.specs.declared.packet.SlipCopy.{SlipCopy}
 use Rattle.tick_machine.specs.declared.call.Call.{Call}
@@ -35,15 +35,15 @@ said_none : (link : ℕ) (ds : List Departed) (out : List ℕ) → Collected Non
 said_none link [] out e = refl
 said_none link (d ∷ ds) out e = let z : ◌≡◌ {A = ℕ} 0 1 = cc in absurd (omega arith)
 
-module _ {W S : Type 0} {pairs : W → List Pair} {capacity : W → ℕ} {state : S → SlotState} {c : Config} {calls : List Call} {l : Link W S} {ss : List Slip}
-    (h : Held pairs capacity state c calls (record { link = l; slips = ss })) where
-  pub none_answered : {l' : Link W S} → Goes pairs capacity state c calls l Collect (collected_as None) l' → Answered pairs capacity state c calls Collect (Collected None) (record { link = l'; slips = ss })
+module _ {W S : Type 0} {line : WaitingLine W} {clock : SlotClock S} {c : Config} {calls : List Call} {l : Link W S} {ss : List Slip}
+    (h : Held line clock c calls (record { link = l; slips = ss })) where
+  pub none_answered : {l' : Link W S} → Goes line clock c calls l Collect (collected_as None) l' → Answered line clock c calls Collect (Collected None) (record { link = l'; slips = ss })
   none_answered g = record {
     held = record { led = g.led; out = h.out ∙ sym (said_none c.link (after c calls).desk.left (after c calls).desk.out g.told); own = h.own };
     told = g.told;
   }
 
-  module _ {l' : Link W S} (s : Slip) (g : Goes pairs capacity state c calls l Collect (collected_as (Some s)) l') where
+  module _ {l' : Link W S} (s : Slip) (g : Goes line clock c calls l Collect (collected_as (Some s)) l') where
     said : Said c.link (after c calls).desk.left (after c calls).desk.out s.says
     said = said_one c.link (after c calls).desk.left (after c calls).desk.out s.says g.told
 
@@ -55,7 +55,7 @@ module _ {W S : Type 0} {pairs : W → List Pair} {capacity : W → ℕ} {state 
         = ap length said.handed_is ∙ length_push (after c calls).desk.out s.says.packet ∙ ap (λ (xs : List ℕ). length xs + 1) (sym h.out) ∙ ap (λ n. n + 1) (length-map ss (λ (x : Slip). x.says.packet)) in
         omega (arith, small, many)
 
-    pub one_answered : (says : SlipCopy) (ss' : List Slip) → says ≡ s.says → ss' ≡ ss ++ s ∷ [] → Answered pairs capacity state c calls Collect (Collected (Some says)) (record { link = l'; slips = ss' })
+    pub one_answered : (says : SlipCopy) (ss' : List Slip) → says ≡ s.says → ss' ≡ ss ++ s ∷ [] → Answered line clock c calls Collect (Collected (Some says)) (record { link = l'; slips = ss' })
     one_answered says ss' e q = record {
       held = record {
         led = g.led;

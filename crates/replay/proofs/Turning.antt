@@ -2,8 +2,8 @@
 use Rattle.std.proofs.Common.{◌≡◌, ℕ, zero, suc, ◌+◌, ◌<◌, List, [], ◌∷◌, ◌++◌, reverse, length, get_or, take, replicate, Ok, Err, Result, sym, refl, ap, ◌∙◌, subst, append_assoc}
 use mathlib.Core.List.{reverse-append}
 use Rattle.std.proofs.lemmas.List.{take_more}
-use Rattle.waiting_line.specs.declared.pair.Pair.{Pair}
-use Rattle.slot_clock.specs.State.{SlotState}
+use Rattle.waiting_line.specs.declared.line.WaitingLine.{Ghosts as WaitingLine}
+use Rattle.slot_clock.specs.declared.clock.SlotClock.{Ghosts as SlotClock}
 use Rattle.tick_machine.specs.declared.refusal.Refusal.{Refusal}
 use Rattle.tick_machine.specs.declared.call.Call.{Call}
 use Rattle.tick_machine.specs.declared.call.Call.TheVariants.{Arrive, MoveTo}
@@ -39,28 +39,28 @@ arrival_out c m (Err e) i n tag = refl
 pub arrive_out : (c : Config) (calls : List Call) (i n tag : ℕ) → (after c (Arrive i n tag ∷ calls)).desk.out ≡ (after c calls).desk.out
 arrive_out c calls i n tag = arrival_out c (after c calls) (arrival c i n (after c calls)) i n tag
 
-module _ {W S : Type 0} {pairs : W → List Pair} {capacity : W → ℕ} {state : S → SlotState} where
+module _ {W S : Type 0} {line : WaitingLine W} {clock : SlotClock S} where
   -- a call that changes no packet out
   pub stays : {c : Config} {calls : List Call} {l l' : Link W S} {ss : List Slip} {call : Call} {said : Answer}
-      → Held pairs capacity state c calls (record { link = l; slips = ss }) → Goes pairs capacity state c calls l call said l' → (after c (call ∷ calls)).desk.out ≡ (after c calls).desk.out
-      → Held pairs capacity state c (call ∷ calls) (record { link = l'; slips = ss })
+      → Held line clock c calls (record { link = l; slips = ss }) → Goes line clock c calls l call said l' → (after c (call ∷ calls)).desk.out ≡ (after c calls).desk.out
+      → Held line clock c (call ∷ calls) (record { link = l'; slips = ss })
   stays h g e = record { led = g.led; out = h.out ∙ sym e; own = h.own }
 
   -- a clock move
   pub moved_answered : {c : Config} {calls : List Call} {l l' : Link W S} {ss : List Slip} {call : Call} {t : ℕ} {was said : Answer}
-      → Held pairs capacity state c calls (record { link = l; slips = ss }) → call ≡ MoveTo t → said ≡ was → Goes pairs capacity state c calls l (MoveTo t) was l'
-      → Answered pairs capacity state c calls call said (record { link = l'; slips = ss })
+      → Held line clock c calls (record { link = l; slips = ss }) → call ≡ MoveTo t → said ≡ was → Goes line clock c calls l (MoveTo t) was l'
+      → Answered line clock c calls call said (record { link = l'; slips = ss })
   moved_answered {c} {calls} {l} {l'} {ss} {call} {t} {was} {said} h e q g =
-      subst (λ (x : Call). Answered pairs capacity state c calls x said (record { link = l'; slips = ss })) (sym e) (record { held = stays h g (move_to_out c calls t); told = q ∙ g.told })
+      subst (λ (x : Call). Answered line clock c calls x said (record { link = l'; slips = ss })) (sym e) (record { held = stays h g (move_to_out c calls t); told = q ∙ g.told })
 
   -- one call more of a list
   pub called_more : {c : Config} {d d' : InHand W S} (cs : List Call) (i : ℕ) (z : Call) → i < length cs → (before xs ys : List Answer) (a : Answer)
-      → Called pairs capacity state c (take i cs) before d xs → ys ≡ xs ++ a ∷ [] → Answered pairs capacity state c (reverse (take i cs)) (get_or cs i z) a d'
-      → Called pairs capacity state c (take (i + 1) cs) before d' ys
+      → Called line clock c (take i cs) before d xs → ys ≡ xs ++ a ∷ [] → Answered line clock c (reverse (take i cs)) (get_or cs i z) a d'
+      → Called line clock c (take (i + 1) cs) before d' ys
   called_more {c} {d} {d'} cs i z h before xs ys a p f g =
       let r : reverse (take (i + 1) cs) ≡ get_or cs i z ∷ reverse (take i cs) = ap reverse (take_more cs i z h) ∙ reverse-append (take i cs) (get_or cs i z ∷ []) in
       record {
-        held = subst (λ (x : List Call). Held pairs capacity state c x d') (sym r) g.held;
+        held = subst (λ (x : List Call). Held line clock c x d') (sym r) g.held;
         told = f ∙ (λ k. p.told k ++ g.told k ∷ []) ∙ append_assoc before (answers c (reverse (take i cs))) _ ∙ ap (λ (x : List Call). before ++ answers c x) (sym r);
       }
 
@@ -69,18 +69,18 @@ adding_push : (c : Config) (ws : List ℕ) (w : ℕ) → adding_answers c (ws ++
 adding_push c [] w = refl
 adding_push c (x ∷ ws) w = ap (λ (y : List Answer). told Added (adding c x) ∷ y) (adding_push (added c x) ws w)
 
-module _ {W : Type 0} {pairs : W → List Pair} {capacity : W → ℕ} where
+module _ {W : Type 0} {line : WaitingLine W} where
   -- one adding more of a list
   pub added_more : {c : Config} {d d' : Draft W} (ws : List ℕ) (i z : ℕ) → i < length ws → (before xs ys : List Answer) (a : Answer) (r : Result ℕ Refusal)
-      → AddedAll pairs capacity c (take i ws) before d xs → ys ≡ xs ++ a ∷ [] → a ≡ told Added r → Adds pairs capacity (drafted c (take i ws)) d (get_or ws i z) r d'
-      → AddedAll pairs capacity c (take (i + 1) ws) before d' ys
+      → AddedAll line c (take i ws) before d xs → ys ≡ xs ++ a ∷ [] → a ≡ told Added r → Adds line (drafted c (take i ws)) d (get_or ws i z) r d'
+      → AddedAll line c (take (i + 1) ws) before d' ys
   added_more {c} {d} {d'} ws i z h before xs ys a r p f q g =
       let w = get_or ws i z in
       let e : take (i + 1) ws ≡ take i ws ++ w ∷ [] = take_more ws i z h in
       let same : drafted c (take (i + 1) ws) ≡ added (drafted c (take i ws)) w = ap (drafted c) e ∙ drafted_push c (take i ws) w in
       let said : a ≡ told Added (adding (drafted c (take i ws)) w) = q ∙ ap (told Added) g.told in
       record {
-        drafts = subst (λ (x : Config). Drafts pairs capacity x d') (sym same) g.drafts;
+        drafts = subst (λ (x : Config). Drafts line x d') (sym same) g.drafts;
         told = f ∙ (λ k. p.told k ++ said k ∷ []) ∙ append_assoc before (adding_answers c (take i ws)) _
             ∙ ap (λ (x : List Answer). before ++ x) (sym (adding_push c (take i ws) w) ∙ ap (adding_answers c) (sym e));
       }

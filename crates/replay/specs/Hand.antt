@@ -1,7 +1,7 @@
 -- An open link together with the slips in hand, those that it handed out and that are not settled. Assumes nothing.
 use Rattle.std.specs.Prelude.{◌≡◌, ℕ, true, List, ◌∷◌, ◌++◌, reverse, Err}
-use Rattle.waiting_line.specs.declared.pair.Pair.{Pair}
-use Rattle.slot_clock.specs.State.{SlotState}
+use Rattle.waiting_line.specs.declared.line.WaitingLine.{Ghosts as WaitingLine}
+use Rattle.slot_clock.specs.declared.clock.SlotClock.{Ghosts as SlotClock}
 use Rattle.tick_machine.specs.declared.refusal.Refusal.{Refusal}
 use Rattle.tick_machine.specs.declared.call.Call.{Call}
 use Rattle.tick_machine.specs.declared.call.Answer.{Answer}
@@ -34,10 +34,10 @@ pub record Missing (own number packet : ℕ) (slips : List Slip) (e : Refusal) (
   pub refused : (c : Config) (m : Machine) → c.link ≡ own → packets slips ≡ m.desk.out → settlement c number packet m ≡ Err e
   pub same : slips' ≡ slips
 
-module _ {W S : Type 0} (pairs : W → List Pair) (capacity : W → ℕ) (state : S → SlotState) where
+module _ {W S : Type 0} (line : WaitingLine W) (clock : SlotClock S) where
   -- these calls, the latest first, led to this link, and the slips in hand are those of the packets out
   pub record Held (c : Config) (calls : List Call) (d : InHand W S) : Type 0 where
-    pub led : Led pairs capacity state c calls d.link
+    pub led : Led line clock c calls d.link
     pub out : packets d.slips ≡ (after c calls).desk.out
     pub own : OfLink c.link d.slips
 
@@ -60,6 +60,6 @@ module _ {W S : Type 0} (pairs : W → List Pair) (capacity : W → ℕ) (state 
     pub told : said ≡ before ++ answers c (reverse calls)
 
 -- addings that were made one after the other on a draft: the draft after them, and their answers after those before
-pub record AddedAll {W : Type 0} (pairs : W → List Pair) (capacity : W → ℕ) (c : Config) (addings : List ℕ) (before : List Answer) (d : Draft W) (said : List Answer) : Type 0 where
-  pub drafts : Drafts pairs capacity (drafted c addings) d
+pub record AddedAll {W : Type 0} (line : WaitingLine W) (c : Config) (addings : List ℕ) (before : List Answer) (d : Draft W) (said : List Answer) : Type 0 where
+  pub drafts : Drafts line (drafted c addings) d
   pub told : said ≡ before ++ adding_answers c addings

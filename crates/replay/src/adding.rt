@@ -11,7 +11,7 @@ use waiting_line::line::WaitingLine;
 // Every adding, in order: their answers come after those that are there.
 pub fn add_all<W: WaitingLine>(draft: &mut Draft<W>, addings: &[u64], answers: &mut Vec<Answer>)
     requires { vec_len answers.old + length addings.now ≤ vec_capacity answers.old }
-    ensures added { (c : Config) → Drafts W.WaitingLine.pairs W.WaitingLine.capacity c draft.old → AddedAll W.WaitingLine.pairs W.WaitingLine.capacity c addings.now answers.old.items draft.new answers.new.items }
+    ensures added { (c : Config) → Drafts W.WaitingLine c draft.old → AddedAll W.WaitingLine c addings.now answers.old.items draft.new answers.new.items }
     ensures many { vec_len answers.new ≡ vec_len answers.old + length addings.now }
     ensures room { vec_capacity answers.new ≡ vec_capacity answers.old }
 {

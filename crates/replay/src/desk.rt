@@ -2,7 +2,7 @@
 ghost use Rattle.std.specs.Prelude.{◌≡◌, ◌+◌, ◌≤◌, [], length, vec_len, vec_capacity, IfOk, MatchResult};
 ghost use Rattle.tick_machine.specs.declared.call.Call.TheVariants.{Collect};
 ghost use Rattle.tick_machine.specs.Machine.{Config};
-ghost use Rattle.tick_machine.specs.Life.{settling, granted};
+ghost use Rattle.tick_machine.specs.Life.{settling};
 ghost use Rattle.link.specs.Drafting.{Drafts, Opens};
 ghost use Rattle.replay.specs.Hand.{Taken, Missing, Held, Answers, Called};
 
@@ -31,7 +31,7 @@ impl<W: WaitingLine, S: SlotClock> Model for Desk<W, S> {
 
     ghost view = { λ d. record { link = d.link; slips = d.slips.items } };
 
-    ghost invariant = { λ d. Reached W.WaitingLine.pairs W.WaitingLine.capacity S.SlotClock.state (record { link = d.link; slips = d.slips.items }) × (1024 ≤ vec_capacity d.slips) };
+    ghost invariant = { λ d. Reached W.WaitingLine S.SlotClock (record { link = d.link; slips = d.slips.items }) × (1024 ≤ vec_capacity d.slips) };
 }
 
 // How many packets may be out at once.
@@ -51,23 +51,13 @@ fn take(own: u64, slips: &mut Vec<Slip>, number: u64, packet: u64) -> Result<Sli
     }
 }
 
-// What is answered to a settlement that is granted.
-fn granted(how: Settlement, packet: u64) -> Answer
-    ensures { result ≡ granted how packet }
-{
-    match how {
-        Settlement::File => Answer::Filed(packet),
-        Settlement::Return => Answer::Returned(packet),
-    }
-}
-
 impl<W: WaitingLine, S: SlotClock> Desk<W, S> {
     // Opens the draft, with no slip in hand; and the number of slots in a round.
     pub fn open(heap: Global, draft: Draft<W>) -> Result<(Desk<W, S>, u64), AllocError>
     where
         W: Drop,
-        requires { (c : Config) × Drafts W.WaitingLine.pairs W.WaitingLine.capacity c draft }
-        ensures opened { IfOk result (λ r. (c : Config) → Drafts W.WaitingLine.pairs W.WaitingLine.capacity c draft → Opens W.WaitingLine.pairs W.WaitingLine.capacity S.SlotClock.state c r.0.link r.1) }
+        requires { (c : Config) × Drafts W.WaitingLine c draft }
+        ensures opened { IfOk result (λ r. (c : Config) → Drafts W.WaitingLine c draft → Opens W.WaitingLine S.SlotClock c r.0.link r.1) }
         ensures none { IfOk result (λ r. r.0.slips ≡ []) }
     {
         let slips = Vec::with_capacity(heap, UNSETTLED)?;
@@ -88,7 +78,7 @@ impl<W: WaitingLine, S: SlotClock> Desk<W, S> {
 
     // A collection: the slip that is handed out comes into hand.
     pub fn collect(&mut self) -> Answer
-        ensures { Answers W.WaitingLine.pairs W.WaitingLine.capacity S.SlotClock.state self.old Collect result self.new }
+        ensures { Answers W.WaitingLine S.SlotClock self.old Collect result self.new }
     {
         match self.link.collect() {
             Some(slip) => {
@@ -102,11 +92,11 @@ impl<W: WaitingLine, S: SlotClock> Desk<W, S> {
 
     // The slip of that link number and packet number is settled so. A slip in hand is never refused.
     pub fn settle(&mut self, how: Settlement, number: u64, packet: u64) -> Answer
-        ensures { Answers W.WaitingLine.pairs W.WaitingLine.capacity S.SlotClock.state self.old (settling how number packet) result self.new }
+        ensures { Answers W.WaitingLine S.SlotClock self.old (settling how number packet) result self.new }
     {
         match take(self.link.number(), &mut self.slips, number, packet) {
             Ok(slip) => match self.link.settle(slip, how) {
-                Ok(settled) => granted(how, settled),
+                Ok(settled) => how.granted(settled),
                 Err(_refused) => unreachable(),
             },
             Err(e) => Answer::Refused(e),
@@ -115,7 +105,7 @@ impl<W: WaitingLine, S: SlotClock> Desk<W, S> {
 
     // A call of the link.
     pub fn answer(&mut self, call: Call) -> Answer
-        ensures { Answers W.WaitingLine.pairs W.WaitingLine.capacity S.SlotClock.state self.old call result self.new }
+        ensures { Answers W.WaitingLine S.SlotClock self.old call result self.new }
     {
         match call {
             Call::Arrive(session, size, tag) => self.link.arrive(session, size, tag).map_or_else(
@@ -140,7 +130,7 @@ impl<W: WaitingLine, S: SlotClock> Desk<W, S> {
     // Every call, in order, of a link just opened: their answers come after those that are there.
     pub fn call_all(&mut self, calls: &[Call], answers: &mut Vec<Answer>)
         requires { vec_len answers.old + length calls.now ≤ vec_capacity answers.old }
-        ensures { (c : Config) → Held W.WaitingLine.pairs W.WaitingLine.capacity S.SlotClock.state c [] self.old → Called W.WaitingLine.pairs W.WaitingLine.capacity S.SlotClock.state c calls.now answers.old.items self.new answers.new.items }
+        ensures { (c : Config) → Held W.WaitingLine S.SlotClock c [] self.old → Called W.WaitingLine S.SlotClock c calls.now answers.old.items self.new answers.new.items }
     {
         for call in calls {
             answers.push_reserved(self.answer(*call));

@@ -23,9 +23,9 @@ fn live<W: WaitingLine + Drop, S: SlotClock + Drop>(
     calls: &[Call],
     mut answers: Vec<Answer>,
 ) -> Result<Played, AllocError>
-    requires drafts { (c : Config) × Drafts W.WaitingLine.pairs W.WaitingLine.capacity c draft }
+    requires drafts { (c : Config) × Drafts W.WaitingLine c draft }
     requires room { (answers.items ≡ []) × (vec_len answers ≡ 0) × (length addings.now + length calls.now + 2 ≤ vec_capacity answers) }
-    ensures { IfOk result (λ p. (c : Config) → Drafts W.WaitingLine.pairs W.WaitingLine.capacity c draft → number ≡ c.link → Lives c addings.now calls.now p.answers.items p.slips.items) }
+    ensures { IfOk result (λ p. (c : Config) → Drafts W.WaitingLine c draft → number ≡ c.link → Lives c addings.now calls.now p.answers.items p.slips.items) }
 {
     answers.push_reserved(Answer::Made(number));
     add_all(&mut draft, addings, &mut answers);

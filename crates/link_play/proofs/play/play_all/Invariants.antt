@@ -8,5 +8,5 @@ use Rattle.link_play.proofs.play.play_all.Given as goal
 abbrev pub invariant-loop-step : goal.invariant-loop-step
 invariant-loop-step g l =
     (vec_len l.answers ≡ vec_len l.initial.answers + l.step-index) × (vec_capacity l.answers ≡ vec_capacity l.initial.answers)
-    × ((c : Config) (calls : List Call) → Held g.W.WaitingLine.pairs g.W.WaitingLine.capacity g.S.SlotClock.state c calls l.initial.desk
-    → Playing g.W.WaitingLine.pairs g.W.WaitingLine.capacity g.S.SlotClock.state c calls l.steps (vec_items l.initial.answers) (drop l.step-index l.steps) (vec_items l.answers) l.desk)
+    × ((c : Config) (calls : List Call) → Held g.W.WaitingLine g.S.SlotClock c calls l.initial.desk
+    → Playing g.W.WaitingLine g.S.SlotClock c calls l.steps (vec_items l.initial.answers) (drop l.step-index l.steps) (vec_items l.answers) l.desk)

@@ -5,5 +5,5 @@ use Rattle.port.proofs.preparing.add_all.Given as goal
 
 abbrev pub invariant-loop-weight : goal.invariant-loop-weight
 invariant-loop-weight g l =
-    (c : Config) → Drafts g.W.WaitingLine.pairs g.W.WaitingLine.capacity c l.initial.draft
-    → Come g.W.WaitingLine.pairs g.W.WaitingLine.capacity c l.weights l.weight-index l.draft
+    (c : Config) → Drafts g.W.WaitingLine c l.initial.draft
+    → Come g.W.WaitingLine c l.weights l.weight-index l.draft

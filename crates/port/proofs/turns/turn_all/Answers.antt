@@ -12,4 +12,4 @@ loop-i-preserved g c =
 
 pub returns : goal.returns
 returns g c f h =
-    subst (λ (n : ℕ). TurnedAll g.W.WaitingLine.pairs g.W.WaitingLine.capacity g.S.SlotClock.state f n c.args.calls.now c.args.answers.now c.loop-i.answers c.loop-i.desk) (omega arith) (c.loop-i.invariant.1 f h)
+    subst (λ (n : ℕ). TurnedAll g.W.WaitingLine g.S.SlotClock f n c.args.calls.now c.args.answers.now c.loop-i.answers c.loop-i.desk) (omega arith) (c.loop-i.invariant.1 f h)

@@ -7,5 +7,5 @@ use Rattle.port.proofs.turns.turn_all.Given as goal
 abbrev pub invariant-loop-i : goal.invariant-loop-i
 invariant-loop-i g l =
     (length l.answers ≡ length l.initial.answers)
-    × ((c : Config) → Held g.W.WaitingLine.pairs g.W.WaitingLine.capacity g.S.SlotClock.state c [] l.initial.desk
-    → TurnedAll g.W.WaitingLine.pairs g.W.WaitingLine.capacity g.S.SlotClock.state c l.i l.calls l.initial.answers l.answers l.desk)
+    × ((c : Config) → Held g.W.WaitingLine g.S.SlotClock c [] l.initial.desk
+    → TurnedAll g.W.WaitingLine g.S.SlotClock c l.i l.calls l.initial.answers l.answers l.desk)

@@ -22,7 +22,7 @@ returns g c =
     let t = take_all c.loop-weight.weight-index c.args.addings.now (omega arith) in
     record {
       added = λ f h.
-          subst (λ (x : List ℕ). AddedAll g.W.WaitingLine.pairs g.W.WaitingLine.capacity f x (vec_items c.args.answers.now) c.loop-weight.draft (vec_items c.loop-weight.answers)) t (inv.2 f h);
+          subst (λ (x : List ℕ). AddedAll g.W.WaitingLine f x (vec_items c.args.answers.now) c.loop-weight.draft (vec_items c.loop-weight.answers)) t (inv.2 f h);
       many = omega (arith, inv.0);
       room = inv.1;
     }

@@ -13,7 +13,7 @@ unreachable-requires g c =
     let again = c.in-Err-file.ensures.keeps k.0 (Collect ∷ k.1.0) goes.led in
     let why = c.in-Err-file._again.0 in
     filing_granted c.in_ok-slip.slip why goes
-    (subst (λ (s : Slip). Goes g.W.WaitingLine.pairs g.W.WaitingLine.capacity g.S.SlotClock.state k.0 (Collect ∷ k.1.0) c.collect.new.self (File s.says.link s.says.packet) (Refused why) c.file-in-Err.new.self) c.in-Err.ensures.back again)
+    (subst (λ (s : Slip). Goes g.W.WaitingLine g.S.SlotClock k.0 (Collect ∷ k.1.0) c.collect.new.self (File s.says.link s.says.packet) (Refused why) c.file-in-Err.new.self) c.in-Err.ensures.back again)
 
 pub invariant_of-self-in-Err : goal.invariant_of-self-in-Err
 invariant_of-self-in-Err g c =

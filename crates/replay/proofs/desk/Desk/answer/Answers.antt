@@ -17,6 +17,6 @@ invariant_of-self-in-MoveTo g c =
 
 pub returns-in-MoveTo : goal.returns-in-MoveTo
 returns-in-MoveTo g c f calls h =
-    let h' = subst (Held g.W.WaitingLine.pairs g.W.WaitingLine.capacity g.S.SlotClock.state f calls) (sym c.self-in-MoveTo.view_is) h in
+    let h' = subst (Held g.W.WaitingLine g.S.SlotClock f calls) (sym c.self-in-MoveTo.view_is) h in
     let said : c.map_or_else-in-MoveTo.result ≡ told (Moved c.in-MoveTo.tick) c.move_to.result = search rules in
     moved_answered h' c.in-MoveTo.is said (c.move_to.ensures f calls h'.led)

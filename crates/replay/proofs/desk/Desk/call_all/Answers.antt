@@ -17,4 +17,4 @@ pub returns : goal.returns
 returns g c f h =
     let inv = c.loop-call.invariant in
     let t = take_all c.loop-call.call-index c.args.calls.now (omega arith) in
-    subst (λ (x : List Call). Called g.W.WaitingLine.pairs g.W.WaitingLine.capacity g.S.SlotClock.state f x (vec_items c.args.answers.now) c.loop-call.self (vec_items c.loop-call.answers)) t (inv.2 f h)
+    subst (λ (x : List Call). Called g.W.WaitingLine g.S.SlotClock f x (vec_items c.args.answers.now) c.loop-call.self (vec_items c.loop-call.answers)) t (inv.2 f h)

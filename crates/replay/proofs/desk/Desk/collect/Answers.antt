@@ -11,5 +11,5 @@ invariant_of-self g c =
 
 pub returns-in-Some : goal.returns-in-Some
 returns-in-Some g c f calls h =
-    let h' = subst (Held g.W.WaitingLine.pairs g.W.WaitingLine.capacity g.S.SlotClock.state f calls) (sym c.self.view_is) h in
+    let h' = subst (Held g.W.WaitingLine g.S.SlotClock f calls) (sym c.self.view_is) h in
     one_answered h' c.in-Some.slip (c.in-Some.ensures f calls h'.led) c.copy-says.result _ c.copy-says.ensures c.push_reserved.ensures.items

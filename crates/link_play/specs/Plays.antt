@@ -2,8 +2,6 @@
 use Rattle.std.specs.Prelude.{◌≡◌, ℕ, List, [], ◌∷◌, ◌++◌, Some, None, Ok, Err, Option, Result}
 use Rattle.waiting_line.specs.declared.line.WaitingLine.{Ghosts as WaitingLine}
 use Rattle.slot_clock.specs.declared.clock.SlotClock.{Ghosts as SlotClock}
-use Rattle.waiting_line.specs.declared.pair.Pair.{Pair}
-use Rattle.slot_clock.specs.State.{SlotState}
 use Rattle.tick_machine.specs.declared.packet.SlipCopy.{SlipCopy}
 use Rattle.tick_machine.specs.declared.call.Call.{Call}
 use Rattle.tick_machine.specs.declared.call.Call.TheVariants.{Arrive, MoveTo, Collect, File, Return, AskFigures, AskTotals}

@@ -1,7 +1,6 @@
 -- What becomes of a making and the addings after it. Assumes nothing.
 use Rattle.std.proofs.Common.{◌≡◌, ℕ, List, Ok, Err, Result, arith}
 use Rattle.waiting_line.specs.declared.line.WaitingLine.{Ghosts as WaitingLine}
-use Rattle.waiting_line.specs.declared.pair.Pair.{Pair}
 use Rattle.tick_machine.specs.declared.refusal.Refusal.{Refusal}
 use Rattle.tick_machine.specs.Machine.{Config}
 use Rattle.link.specs.declared.error.MakeError.TheVariants.{Refused}

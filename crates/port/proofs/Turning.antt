@@ -3,8 +3,6 @@ use Rattle.std.proofs.Common.{◌≡◌, ℕ, ◌+◌, ◌<◌, List, [], ◌∷
 use Rattle.std.proofs.lemmas.List.{take_more, take_more_set, drop-set-lt, drop-drop}
 use Rattle.waiting_line.specs.declared.line.WaitingLine.{Ghosts as WaitingLine}
 use Rattle.slot_clock.specs.declared.clock.SlotClock.{Ghosts as SlotClock}
-use Rattle.waiting_line.specs.declared.pair.Pair.{Pair}
-use Rattle.slot_clock.specs.State.{SlotState}
 use Rattle.tick_machine.specs.declared.call.Call.{Call}
 use Rattle.tick_machine.specs.Machine.{Config}
 use Rattle.replay.specs.Hand.{InHand, Held}

@@ -22,13 +22,6 @@ times_least m zero l = absurd (omega arith)
 pub record Left (ws : List ℕ) (position i p : ℕ) : Type 0 where
   pub within : p < round_length (drop i ws)
   pub same : holder ws position ≡ i + holder (drop i ws) p
-  pub there : i < length ws
-
-left_there : (ws : List ℕ) (i p : ℕ) → p < round_length (drop i ws) → i < length ws
-left_there [] zero p h = absurd (omega arith)
-left_there [] (suc i) p h = absurd (omega arith)
-left_there (w ∷ ws) zero p h = omega arith
-left_there (w ∷ ws) (suc i) p h = omega (arith, left_there ws i p h)
 
 left_step : (ws : List ℕ) (i p : ℕ) → p < round_length (drop i ws) → slice_index ws i ≤ p
     → (p - slice_index ws i < round_length (drop (suc i) ws)) × (holder (drop i ws) p ≡ suc (holder (drop (suc i) ws) (p - slice_index ws i)))
@@ -44,15 +37,18 @@ left_found (w ∷ ws) zero p h l = holder_front w p ws l
 left_found (w ∷ ws) (suc i) p h l = left_found ws i p (omega arith) l
 
 pub left_first : (ws : List ℕ) (p : ℕ) → p < round_length ws → Left ws p 0 p
-left_first ws p h = record { within = h; same = omega arith; there = left_there ws 0 p h }
+left_first ws p h = record { within = h; same = omega arith }
 
 pub left_next : (ws : List ℕ) (position i p : ℕ) → Left ws position i p → slice_index ws i ≤ p → Left ws position (i + 1) (p - slice_index ws i)
 left_next ws position i p h l =
     let s = left_step ws i p h.within l in
-    rw add-one (record { within = s.0; same = omega (arith, h.same, s.1); there = left_there ws (suc i) (p - slice_index ws i) s.0 })
+    rw add-one (record { within = s.0; same = omega (arith, h.same, s.1) })
 
-pub left_last : (ws : List ℕ) (position i p : ℕ) → Left ws position i p → p < slice_index ws i → i ≡ holder ws position
-left_last ws position i p h l = omega (arith, h.same, left_found ws i p h.there l)
+pub left_last : (ws : List ℕ) (position i p : ℕ) → Left ws position i p → i < length ws → p < slice_index ws i → i ≡ holder ws position
+left_last ws position i p h k l = omega (arith, h.same, left_found ws i p k l)
+
+pub left_never : (ws : List ℕ) (position i p : ℕ) → Left ws position i p → length ws ≤ i → ⊥
+left_never ws position i p h l = omega (arith, h.within, ap round_length (drop_all i ws l))
 
 -- the loops over the sessions
 pub round_more : (ws : List ℕ) (i : ℕ) → i < length ws → round_length (drop i ws) ≡ slice_index ws i + round_length (drop (i + 1) ws)

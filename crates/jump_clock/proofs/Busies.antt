@@ -268,6 +268,3 @@ missed_none v ns j l e = let t = total (λ n. only (eqb n v) 1) ns in let s = hi
 
 pub halfway_moved : (c v : ℕ) (ns : List ℕ) → c < v → halfway c v ns ≡ missed v ns
 halfway_moved c v ns l = only_yes (ltb c v) (missed v ns) (lt-ltb c v l)
-
-pub halfway_still : (c : ℕ) (ns : List ℕ) → halfway c c ns ≡ 0
-halfway_still c ns = only_no (ltb c c) (missed c ns) (le-ltb c c (omega arith))

@@ -79,6 +79,7 @@ impl JumpClock {
     }
 }
 
+// Readings and laws are those of `Held`, as in `StepClock`: each impl of the trait names them itself, which is no twin's code.
 impl SlotClock for JumpClock {
     ghost state = { λ c. held_state c.held };
 

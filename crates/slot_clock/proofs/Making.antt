@@ -1,7 +1,6 @@
--- The weights, one by one, and what a clock starts with. Assumes nothing.
-use Rattle.std.proofs.Common.{◌≡◌, ℕ, zero, suc, ◌+◌, ◌-◌, ◌<◌, ◌≤◌, true, false, cond, ◌&&◌, ltb, leb, List, [], ◌∷◌, length, get_or, drop, replicate, Some, None, Ok, Option, sym, refl, ap, ◌∙◌, subst, add-one, arith, drop-cons}
-use Rattle.std.proofs.lemmas.List.{drop_all}
-use Rattle.std.proofs.lemmas.Bool.{cond-true, cond-false, lt-ltb, le-ltb, le-leb, lt-leb, and_from, and_left, and_right}
+-- What a clock starts with. Assumes nothing.
+use Rattle.std.proofs.Common.{◌≡◌, ℕ, zero, suc, ◌<◌, ◌≤◌, true, ◌&&◌, ltb, leb, List, [], ◌∷◌, length, get_or, replicate, Ok, sym, refl, ap, ◌∙◌, subst, arith}
+use Rattle.std.proofs.lemmas.Bool.{cond-true, lt-ltb, le-leb, and_from}
 use Rattle.tick_machine.specs.Slots.{round_length}
 use Rattle.tick_machine.specs.Round.{Round, fresh_round}
 use Rattle.tick_machine.specs.Owed.{owed_slots, shown_round}
@@ -9,31 +8,6 @@ use Rattle.tick_machine.proofs.OwedSlots.{shown_fresh}
 use Rattle.slot_clock.specs.State.{state_of}
 use Rattle.slot_clock.specs.Calls.{no_zero, made_answer}
 use Rattle.slot_clock.specs.Walk.{Tops}
-use Rattle.slot_clock.specs.Blocks.{round_more}
-
-pub no_zero_more : (ws : List ℕ) (i : ℕ) → i < length ws → no_zero (drop i ws) ≡ (ltb 0 (get_or ws i 0) && no_zero (drop (i + 1) ws))
-no_zero_more ws i l = rw add-one (ap no_zero (drop-cons ws i 0 l))
-
--- the round's length, or none
-abbrev pub Summed : List ℕ → Option ℕ
-Summed ws = cond (no_zero ws && leb (round_length ws) 4096) (Some (round_length ws)) None
-
-pub zero_refuses : (ws : List ℕ) (i : ℕ) → i < length ws → no_zero (drop i ws) ≡ no_zero ws → get_or ws i 0 ≡ 0 → None ≡ Summed ws
-zero_refuses ws i l e z =
-    let f : no_zero ws ≡ false = sym e ∙ no_zero_more ws i l ∙ and_left (ltb 0 (get_or ws i 0)) _ (le-ltb 0 (get_or ws i 0) (omega arith)) in
-    sym (cond-false (no_zero ws && leb (round_length ws) 4096) (Some (round_length ws)) None (and_left (no_zero ws) _ f))
-
-pub many_refuse : (ws : List ℕ) (i sum : ℕ) → i < length ws → sum + round_length (drop i ws) ≡ round_length ws → 4096 - sum < get_or ws i 0 → None ≡ Summed ws
-many_refuse ws i sum l e z =
-    let f : leb (round_length ws) 4096 ≡ false = lt-leb (round_length ws) 4096 (omega (arith, round_more ws i l)) in
-    sym (cond-false (no_zero ws && leb (round_length ws) 4096) (Some (round_length ws)) None (and_right (no_zero ws) _ f))
-
-pub none_refuses : (ws : List ℕ) (i sum : ℕ) → length ws ≤ i → sum + round_length (drop i ws) ≡ round_length ws → no_zero (drop i ws) ≡ no_zero ws → sum ≤ 4096 → Some sum ≡ Summed ws
-none_refuses ws i sum l e z m =
-    let s : sum ≡ round_length ws = omega (arith, ap round_length (drop_all i ws l)) in
-    let f : (no_zero ws && leb (round_length ws) 4096) ≡ true
-    = and_from (no_zero ws) (leb (round_length ws) 4096) (sym z ∙ ap no_zero (drop_all i ws l)) (le-leb (round_length ws) 4096 (omega arith)) in
-    ap (λ x. Some x) s ∙ sym (cond-true (no_zero ws && leb (round_length ws) 4096) (Some (round_length ws)) None f)
 
 no_slots : (k i : ℕ) → ◌≡◌ {A = ℕ} (get_or (replicate k 0) i 0) 0
 no_slots zero i = refl

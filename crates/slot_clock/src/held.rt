@@ -9,7 +9,8 @@ use arrayvec::ArrayVec;
 #[derive(Drop)]
 pub struct Held {
     pub layout: Layout,
-    // for each session one more than the highest slot that it ever got
+    // for each session one more than the highest slot that it ever got; beside the weights, and not in one list with them,
+    // since those stay as they are made and all that is said of the layout is said of them alone
     pub next: ArrayVec<u64, 64>,
     pub cursor: u64,
     pub ticks: u64,

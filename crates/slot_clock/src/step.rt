@@ -11,7 +11,7 @@ use crate::clock::SlotClock;
 use crate::held::Held;
 use crate::refusal::ClockRefusal;
 
-// V after so many ticks. How many slots it looks at is told only by looking.
+// V after so many ticks. A `while`, as it looks at slots until enough were served: no range ends there.
 fn after(held: &Held, ticks: u64) -> u64
     ensures { result ≡ ticks_cursor (weights_of held.now) (next_of held.now) ticks held.now.cursor }
 {
@@ -26,7 +26,7 @@ fn after(held: &Held, ticks: u64) -> u64
     v
 }
 
-// The stamp: the highest of the session's so many lowest slots from a slot on.
+// The stamp: the highest of the session's so many lowest slots from a slot on. A `while`, as no range ends at it.
 fn stamp_of(held: &Held, session: u64, size: u64, from: u64) -> u64
     requires { Room held.now session size from }
     ensures { result ≡ final 0 (own_slots (weights_of held.now) session size from) }

@@ -24,9 +24,6 @@ overflow_add-v c =
     let a = owed_ahead (weights_of h) (next_of h) c.loop-left.v (omega (arith, c.loop-left-test.true, c.loop-left.invariant.1)) in
     omega (arith, a, greatest_most (next_of h) (2 ^ 57) (λ j l. near (weights_of h) (next_of h) h.layout.slots h.cursor h.ticks h.owed (sound h) j))
 
-pub loop-left-smaller : goal.loop-left-smaller
-loop-left-smaller c = let h = c.args.held.now in omega (arith, owed_ahead (weights_of h) (next_of h) c.loop-left.v (omega (arith, c.loop-left-test.true, c.loop-left.invariant.1)))
-
 pub loop-left-preserved : goal.loop-left-preserved
 loop-left-preserved c =
     let h = c.args.held.now in

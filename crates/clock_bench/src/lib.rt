@@ -6,13 +6,10 @@
 use jump_clock::jump::JumpClock;
 use slot_clock::clock::SlotClock;
 use slot_clock::step::StepClock;
+use std::array;
 
 fn weights() -> [u64; 64] {
-    let mut all = [0; 64];
-    for i in 0..64 {
-        all[i] = i as u64 + 1;
-    }
-    all
+    array::from_fn(|i| i as u64 + 1)
 }
 
 fn mixed(sum: u64, value: u64) -> u64 {
@@ -21,13 +18,9 @@ fn mixed(sum: u64, value: u64) -> u64 {
 
 // V and what each session is owed.
 fn shown<S: SlotClock>(clock: &S, sessions: u64) -> u64 {
-    let mut sum = clock.cursor();
-    for session in 0..sessions {
-        if let Ok(owed) = clock.owed(session) {
-            sum = mixed(sum, owed);
-        }
-    }
-    sum
+    (0..sessions)
+        .filter_map(|session| clock.owed(session).ok())
+        .fold(clock.cursor(), mixed)
 }
 
 // Packets of the sessions in turn: the sum of their stamps.
@@ -35,13 +28,9 @@ fn load<S: SlotClock>(clock: &mut S, sessions: u64, size: u64, packets: u64) -> 
     if sessions == 0 {
         return 0;
     }
-    let mut sum = 0;
-    for packet in 0..packets {
-        if let Ok(stamp) = clock.add(packet % sessions, size) {
-            sum = mixed(sum, stamp);
-        }
-    }
-    sum
+    (0..packets)
+        .filter_map(|packet| clock.add(packet % sessions, size).ok())
+        .fold(0, mixed)
 }
 
 fn moved<S: SlotClock>(clock: &mut S, ticks: u64, moves: u64) {

@@ -1,14 +1,14 @@
 -- The sums over the busy sessions: who stands in the heap, and what a change does to it. Assumes nothing.
 use Rattle.std.proofs.Common.{◌≡◌, ℕ, zero, suc, ◌+◌, ◌-◌, ◌<◌, ◌≤◌, Bool, true, false, ◌&&◌, eqb, ltb, List, [], ◌∷◌, length, get_or, set, replicate, sym, refl, ap, ◌∙◌, subst, ⊎_elim, arith}
-use Rattle.std.proofs.lemmas.List.{get_or-take, length-take-le}
 use Rattle.std.proofs.lemmas.Bool.{lt-ltb, le-ltb, eqb-true, eq-eqb, ne_eqb, and_parts, and_from, cases_lt, cases_Bool}
 use Rattle.tick_machine.specs.Lists.{total, only}
 use Rattle.tick_machine.specs.Slots.{owner}
 use Rattle.tick_machine.proofs.Lists.{only_yes, only_no}
 use Rattle.slot_clock.specs.Walk.{Tops}
 use Rattle.jump_clock.specs.declared.dry.Dry.{Dry}
-use Rattle.jump_clock.specs.declared.dry.Busy.{Busy}
-use Rattle.jump_clock.specs.Dries.{blank, items, Ordered, over_busy, Holds, Traded, Gained, Lost, missed, halfway}
+use Rattle.jump_clock.specs.Ends.{blank, Ordered}
+use Rattle.jump_clock.specs.Dries.{over_busy, Holds, Traded, Gained, Lost, missed, halfway}
+use Rattle.jump_clock.specs.Jumps.{Ahead}
 use Rattle.jump_clock.proofs.Heaps.{top}
 
 -- a busy session counts
@@ -220,21 +220,18 @@ busy_count xs v next holds = sym (total_ones xs) ∙ holds (λ _. 1) ∙ over_on
     over_ones i (n ∷ ns) = ap (λ x. only (ltb v n) 1 + x) (over_ones (suc i) ns)
 
 -- the first in the heap is the session that runs dry first
-pub record First (v : ℕ) (next : List ℕ) (at : ℕ) (e : ℕ) : Type 0 where
-  pub known : at < length next
-  pub busy : v < get_or next at 0
-  pub first : (j : ℕ) → j < length next → v < get_or next j 0 → get_or next at 0 ≤ get_or next j 0
-  pub ends : e ≡ get_or next at 0
-
-pub firstly : (xs : List Dry) (v : ℕ) (next : List ℕ) → Holds xs v next → Ordered xs → 0 < length xs → First v next (get_or xs 0 blank).session (get_or xs 0 blank).end
+pub firstly : (xs : List Dry) (v : ℕ) (next : List ℕ) → Holds xs v next → Ordered xs → 0 < length xs → Ahead next v (get_or xs 0 blank).session
 firstly xs v next holds ordered l =
     let s = stands xs v next holds 0 l in
     record {
       known = s.0;
       busy = omega (arith, s.1, s.2);
       first = λ j k u. omega (arith, s.1, leads xs v next holds ordered l j k u);
-      ends = sym s.1;
     }
+
+-- and its end is the session's next
+pub first_end : (xs : List Dry) (v : ℕ) (next : List ℕ) → Holds xs v next → 0 < length xs → (get_or xs 0 blank).end ≡ get_or next (get_or xs 0 blank).session 0
+first_end xs v next holds l = sym (stands xs v next holds 0 l).1
 
 -- at first none is busy
 over_none : (f : Dry → ℕ) (i k : ℕ) → over_busy f 0 i (replicate k 0) ≡ 0
@@ -245,9 +242,6 @@ pub holds_none : (xs : List Dry) (v : ℕ) (next : List ℕ) (k : ℕ) → xs �
 holds_none xs v next k e z n f =
     ap (total f) e ∙ sym (over_none f 0 k) ∙ ap (λ u. over_busy f u 0 (replicate k 0)) (sym z) ∙ ap (over_busy f v 0) (sym n)
 
-pub ordered_none : (xs : List Dry) → xs ≡ [] → Ordered xs
-ordered_none xs e k a b = absurd (omega (arith, ap length e))
-
 pub holds_renewed_at : (xs ys : List Dry) (v : ℕ) (next : List ℕ) (k n i : ℕ) → (get_or xs k blank).session ≡ i → Holds xs v next → k < length xs → v < n
     → Traded xs (get_or xs k blank) (record { end = n; session = i }) ys → Holds ys v (set next i n)
 holds_renewed_at xs ys v next k n i e holds l u traded =
@@ -255,15 +249,6 @@ holds_renewed_at xs ys v next k n i e holds l u traded =
 
 pub later_end : (xs : List Dry) (v : ℕ) (next : List ℕ) (k i : ℕ) → (get_or xs k blank).session ≡ i → Holds xs v next → k < length xs → (get_or xs k blank).end ≡ get_or next i 0
 later_end xs v next k i e holds l = sym (stands xs v next holds k l).1 ∙ ap (λ j. get_or next j 0) e
-
-pub items_are : (b : Busy) → length (items b) ≡ b.count
-items_are b = length-take-le b.count b.places (omega (arith, b.fits.0, b.fits.1))
-
--- the same of the first place
-pub first_place : (b : Busy) (v : ℕ) (next : List ℕ) → Holds (items b) v next → Ordered (items b) → 0 < b.count → First v next (get_or b.places 0 blank).session (get_or (items b) 0 blank).end
-first_place b v next holds ordered some =
-    subst (λ (x : Dry). First v next x.session (get_or (items b) 0 blank).end) (get_or-take b.count b.places 0 blank some)
-    (firstly (items b) v next holds ordered (omega (arith, items_are b)))
 
 -- whether some session's next is v
 hit_none : (v : ℕ) (ns : List ℕ) → ((j : ℕ) → j < length ns → get_or ns j 0 ≡ v → ⊥) → total (λ n. only (eqb n v) 1) ns ≡ 0
@@ -283,6 +268,3 @@ missed_none v ns j l e = let t = total (λ n. only (eqb n v) 1) ns in let s = hi
 
 pub halfway_moved : (c v : ℕ) (ns : List ℕ) → c < v → halfway c v ns ≡ missed v ns
 halfway_moved c v ns l = only_yes (ltb c v) (missed v ns) (lt-ltb c v l)
-
-pub halfway_still : (c : ℕ) (ns : List ℕ) → halfway c c ns ≡ 0
-halfway_still c ns = only_no (ltb c c) (missed c ns) (le-ltb c c (omega arith))

@@ -4,37 +4,47 @@ use Rattle.std.proofs.lemmas.Bool.{lt-ltb, le-ltb, cases_lt, eqb-true}
 use Rattle.tick_machine.specs.Lists.{count, final, All}
 use Rattle.tick_machine.specs.Slots.{round_length, holder, owner, own_slots}
 use Rattle.tick_machine.proofs.Windows.{owner_there, weight_some, first_round}
-use Rattle.slot_clock.specs.Layout.{marked, counted}
-use Rattle.slot_clock.specs.Walk.{below, due, ticks_cursor}
+use Rattle.slot_clock.specs.Layout.{counted}
+use Rattle.slot_clock.specs.Walk.{below, due, ticks_cursor, Tops}
 use Rattle.slot_clock.specs.Counts.{count_rises, count_pass, count_above, count_agree, count_from, count_below}
-use Rattle.slot_clock.proofs.Masks.{alone_counts}
 use Rattle.slot_clock.specs.Reaches.{stamp_one}
 use Rattle.slot_clock.specs.Walks.{reached, ticks_more, still, greatest_most}
+use Rattle.slot_clock.specs.declared.held.Held.{Held}
+use Rattle.slot_clock.specs.Held.{weights_of, next_of}
+use Rattle.slot_clock.specs.Sound.{near}
+use Rattle.slot_clock.specs.Holding.{sound}
 use Rattle.jump_clock.specs.Jumps.{Ahead}
 
 -- no session is busy
 pub none_busy : (ws next : List ℕ) (left v : ℕ) → ((j : ℕ) → j < length next → get_or next j 0 ≤ v) → ticks_cursor ws next left v ≡ v
 none_busy ws next left v h = still ws next left v (greatest_most next v h)
 
-module _ (ws next : List ℕ) (n v at : ℕ) (h : Ahead ws next n v at) (mask : List Bool) (is : (j : ℕ) → j < length next → marked mask j ≡ ltb v (get_or next j 0)) where
+-- the busy sessions
+abbrev pub busy : ℕ → List ℕ → ℕ → Bool
+busy v next j = ltb v (get_or next j 0)
+
+module _ (h : Held) (next : List ℕ) (same : next ≡ next_of h) (v at : ℕ) (a : Ahead next v at) where
+  abbrev ws : List ℕ
+  ws = weights_of h
+
   abbrev b : ℕ → Bool
-  b = counted ws mask
+  b = counted ws (busy v next)
 
   abbrev end : ℕ
   end = get_or next at 0
 
   positive : 0 < round_length ws
-  positive = omega (arith, h.whole, h.some)
+  positive = omega (arith, h.layout.whole, h.layout.some)
 
   there : (q : ℕ) → owner ws q < length next
-  there q = omega (arith, owner_there ws q positive, h.same)
+  there q = omega (arith, owner_there ws q positive, ap length same, h.same)
 
   agree : (q : ℕ) → v ≤ q → q < end → due ws next q ≡ b q
   agree q l u =
       let m = get_or next (owner ws q) 0 in
       ⊎_elim
-      (λ (k : v < m). lt-ltb q m (omega (arith, h.first (owner ws q) (there q) k)) ∙ sym (is (owner ws q) (there q) ∙ lt-ltb v m k))
-      (λ (k : m ≤ v). le-ltb q m (omega arith) ∙ sym (is (owner ws q) (there q) ∙ le-ltb v m k))
+      (λ (k : v < m). lt-ltb q m (omega (arith, a.first (owner ws q) (there q) k)) ∙ sym (lt-ltb v m k))
+      (λ (k : m ≤ v). le-ltb q m (omega arith) ∙ sym (le-ltb v m k))
       (cases_lt v m)
 
   counts : (x : ℕ) → v ≤ x → x ≤ end → count (due ws next) x + count b v ≡ count b x + count (due ws next) v
@@ -42,37 +52,38 @@ module _ (ws next : List ℕ) (n v at : ℕ) (h : Ahead ws next n v at) (mask : 
 
   end_due : due ws next (end - 1) ≡ true
   end_due =
-      let busy = h.busy in
-      let o : owner ws (end - 1) ≡ at = h.tops at h.known (omega arith) in
+      let ahead = a.busy in
+      let tops : Tops ws next = subst (Tops ws) (sym same) h.tops in
+      let o : owner ws (end - 1) ≡ at = tops at a.known (omega arith) in
       lt-ltb (end - 1) (get_or next (owner ws (end - 1)) 0) (omega (arith, ap (λ x. get_or next x 0) o))
 
   -- a round has a slot of a busy session
-  pub busy_hit : 0 < count b n
+  pub busy_hit : 0 < count b h.layout.slots
   busy_hit =
       let s = end - 1 in
-      let busy = h.busy in
+      let ahead = a.busy in
       let e : b s ≡ true = sym (agree s (omega arith) (omega arith)) ∙ end_due in
       let m = round_length ws in
       let low : s % m < m = mod-lt s positive in
-      let same : b (s % m) ≡ true = ap (λ x. marked mask (holder ws x)) (mod-eq_of_lt low) ∙ e in
-      omega (arith, count_above b (s % m) m same low, ap (count b) h.whole)
+      let same : b (s % m) ≡ true = ap (λ x. busy v next (holder ws x)) (mod-eq_of_lt low) ∙ e in
+      omega (arith, count_above b (s % m) m same low, ap (count b) h.layout.whole)
 
   pub rises : count b v ≤ count b end
-  rises = count_rises b v end (omega (arith, h.busy))
+  rises = count_rises b v end (omega (arith, a.busy))
 
   -- the session runs dry within the ticks
   module _ (c left : ℕ) (e : count b v + c ≡ count b end) (enough : c ≤ left) where
     pub dry_some : 1 ≤ c
     dry_some =
         let s = end - 1 in
-        let busy = h.busy in
+        let ahead = a.busy in
         let x : suc s ≡ end = omega arith in
         omega (arith, counts end (omega arith) (omega arith), count_pass (due ws next) s end_due, ap (count (due ws next)) x, count_rises (due ws next) v s (omega arith))
 
     pub dry_goes : ticks_cursor ws next (left - c) end ≡ ticks_cursor ws next left v
     dry_goes =
         let s = end - 1 in
-        let busy = h.busy in
+        let ahead = a.busy in
         let f : ℕ → Bool = due ws next in
         let some = dry_some in
         let x : suc s ≡ end = omega arith in
@@ -102,20 +113,20 @@ module _ (ws next : List ℕ) (n v at : ℕ) (h : Ahead ws next n v at) (mask : 
         let k = counts s low (omega arith) in
         sym (ap (λ n. ticks_cursor ws next n v) back ∙ reached ws next (left - 1) v s low (agree s low high ∙ mine) (omega arith) ∙ plus)
 
-  pub jump_near : (left : ℕ) → 1 ≤ left → left ≤ 17592186044416 → v + ((left - 1) + 1) * n < 2 ^ 63
+  pub next_near : end ≤ 2 ^ 57
+  next_near = omega (arith, ap (λ xs. get_or xs at 0) same, near ws (next_of h) h.layout.slots h.cursor h.ticks h.owed (sound h) at)
+
+  pub jump_near : (left : ℕ) → 1 ≤ left → left ≤ 17592186044416 → v + ((left - 1) + 1) * h.layout.slots < 2 ^ 63
   jump_near left some few =
       let e : ((left - 1) + 1) ≡ left = omega arith in
-      let m = ap (λ x. x * n) e in
-      omega (arith, m, mul-le-mul few h.small, h.busy, h.near)
+      let m = ap (λ x. x * h.layout.slots) e in
+      omega (arith, m, mul-le-mul few h.layout.small, a.busy, next_near)
 
 -- a stamp in closed form
-pub stamp_done : (ws w : List ℕ) (mask : List Bool) (i m q s : ℕ) → w ≡ ws → All (λ w. 1 ≤ w) ws → i < length ws → 1 ≤ m → ((j : ℕ) → marked mask j ≡ eqb j i)
-    → counted w mask s ≡ true → count (counted w mask) s ≡ count (counted w mask) q + (m - 1) → s ≡ final 0 (own_slots ws i m q)
-stamp_done ws w mask i m q s e each l long is mine rank =
-    let own : owner ws s ≡ i = eqb-true (owner ws s) i (sym (is (owner ws s)) ∙ subst (λ x. counted x mask s ≡ true) e mine) in
-    let r : count (counted ws mask) s ≡ count (counted ws mask) q + (m - 1) = subst (λ x. count (counted x mask) s ≡ count (counted x mask) q + (m - 1)) e rank in
-    stamp_one ws each i m q s l long own (omega (arith, alone_counts ws mask i is s, alone_counts ws mask i is q))
+pub stamp_done : (ws : List ℕ) (i m q s : ℕ) → All (λ w. 1 ≤ w) ws → i < length ws → 1 ≤ m
+    → counted ws (λ j. eqb j i) s ≡ true → below ws i s ≡ below ws i q + (m - 1) → s ≡ final 0 (own_slots ws i m q)
+stamp_done ws i m q s each l long mine rank = stamp_one ws each i m q s l long (eqb-true (owner ws s) i mine) rank
 
 -- a session has a slot in each round
-pub alone_hit : (ws : List ℕ) (mask : List Bool) (i n : ℕ) → All (λ w. 1 ≤ w) ws → i < length ws → n ≡ round_length ws → ((j : ℕ) → marked mask j ≡ eqb j i) → 0 < count (counted ws mask) n
-alone_hit ws mask i n each l e is = omega (arith, alone_counts ws mask i is n, ap (below ws i) e, first_round ws i l, weight_some ws i each l)
+pub alone_hit : (ws : List ℕ) (i n : ℕ) → All (λ w. 1 ≤ w) ws → i < length ws → n ≡ round_length ws → 0 < below ws i n
+alone_hit ws i n each l e = omega (arith, ap (below ws i) e, first_round ws i l, weight_some ws i each l)

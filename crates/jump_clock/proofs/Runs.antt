@@ -1,40 +1,58 @@
 -- What the jumping clock holds, as its calls need it. Assumes nothing.
-use Rattle.std.proofs.Common.{◌≡◌, ℕ, ◌<◌, ltb, List, get_or, sym, ap, ◌∙◌, arith}
+use Rattle.std.proofs.Common.{◌≡◌, ℕ, ◌+◌, ◌<◌, ◌≤◌, ltb, List, length, get_or, sym, ap, ◌∙◌, subst, ⊎_elim, arith}
+use Rattle.std.proofs.lemmas.Bool.{cases_lt}
 use Rattle.tick_machine.specs.Lists.{total, only}
 use Rattle.slot_clock.specs.declared.held.Held.{Held}
 use Rattle.slot_clock.specs.Held.{weights_of, next_of, held_state}
-use Rattle.slot_clock.specs.Sound.{near}
-use Rattle.slot_clock.specs.Holding.{sessions_are, nexts_are, sound}
-use Rattle.jump_clock.specs.declared.dry.Busy.{Busy}
-use Rattle.jump_clock.specs.Dries.{blank, items, Ordered, Holds, busy_sessions, halfway}
-use Rattle.jump_clock.specs.Jumps.{Ahead}
-use Rattle.jump_clock.proofs.Busies.{first_place, items_are, busy_count}
-
--- the first in the heap is ahead
-pub ahead : (h : Held) (b : Busy) (v : ℕ) → Holds (items b) v (next_of h) → Ordered (items b) → 0 < b.count
-    → Ahead (weights_of h) (next_of h) h.round v (get_or b.places 0 blank).session
-ahead h b v holds ordered some =
-    let f = first_place b v (next_of h) holds ordered some in
-    record {
-      whole = h.whole;
-      some = h.some;
-      small = h.small;
-      few = omega (arith, sessions_are h, h.fits);
-      same = nexts_are h ∙ sym (sessions_are h);
-      tops = h.tops;
-      near = near (weights_of h) (next_of h) h.round h.cursor h.ticks h.owed (sound h) (get_or b.places 0 blank).session;
-      known = f.known;
-      busy = f.busy;
-      first = f.first;
-    }
+use Rattle.jump_clock.specs.declared.dry.Dry.{Dry}
+use Rattle.jump_clock.specs.Ends.{blank, Ordered}
+use Rattle.jump_clock.specs.Dries.{Holds, Lost, busy_sessions, missed, halfway}
+use Rattle.jump_clock.proofs.Busies.{busy_count, firstly, first_end, holds_less, holds_on, missed_all, missed_none}
 
 -- the heap has as many elements as sessions are busy
-pub sessions_busy : (h : Held) (b : Busy) (v : ℕ) (next : List ℕ) → h.cursor ≡ v → next_of h ≡ next → Holds (items b) v next → busy_sessions (held_state h) ≡ b.count
+pub sessions_busy : (h : Held) (xs : List Dry) (v : ℕ) (next : List ℕ) → h.cursor ≡ v → next_of h ≡ next → Holds xs v next → busy_sessions (held_state h) ≡ length xs
 unfolding held_state
-sessions_busy h b v next e f holds =
-    ap (λ x. total (λ n. only (ltb x n) 1) (next_of h)) e ∙ ap (λ y. total (λ n. only (ltb v n) 1) y) f ∙ sym (busy_count (items b) v next holds) ∙ items_are b
+sessions_busy h xs v next e f holds =
+    ap (λ x. total (λ n. only (ltb x n) 1) (next_of h)) e ∙ ap (λ y. total (λ n. only (ltb v n) 1) y) f ∙ sym (busy_count xs v next holds)
 
 pub halfway_state : (h exit : Held) (v : ℕ) (next : List ℕ) → exit.cursor ≡ v → next_of exit ≡ next
     → halfway (held_state h).cursor (held_state exit).cursor (held_state exit).next ≡ halfway h.cursor v next
 unfolding held_state
 halfway_state h exit v next e f = ap (λ x. halfway h.cursor x (next_of exit)) e ∙ ap (halfway h.cursor v) f
+
+-- the heap after a jump to `to`
+pub record Turned (xs ys : List Dry) (to : ℕ) (next : List ℕ) : Type 0 where
+  pub holds : Holds ys to next
+  pub turns : length ys + 1 ≡ length xs + missed to next
+
+module _ (h : Held) (xs : List Dry) (v : ℕ) (holds : Holds xs v (next_of h)) (ordered : Ordered xs) (some : 0 < length xs) where
+  abbrev first : Dry
+  first = get_or xs 0 blank
+
+  -- the first has run dry
+  pub dry_missed : (to : ℕ) → to ≡ first.end → missed to (next_of h) ≡ 0
+  dry_missed to e =
+      missed_none to (next_of h) first.session (firstly xs v (next_of h) holds ordered some).known (sym (first_end xs v (next_of h) holds some) ∙ sym e)
+
+  pub dry_turned : (ys : List Dry) (to : ℕ) → to ≡ first.end → Lost xs first ys → length ys + 1 ≡ length xs → Turned xs ys to (next_of h)
+  dry_turned ys to e lost count = record {
+    holds = subst (λ u. Holds ys u (next_of h)) (sym e) (holds_less xs ys v (weights_of h) (next_of h) h.tops holds ordered some lost);
+    turns = omega (arith, count, dry_missed to e);
+  }
+
+  -- the ticks ended before
+  module _ (to : ℕ) (past : v < to) (within : to ≤ get_or (next_of h) first.session 0) (apart : to ≡ first.end → ⊥) where
+    pub stop_short : to < get_or (next_of h) first.session 0
+    stop_short = omega (arith, first_end xs v (next_of h) holds some, apart)
+
+    pub stop_turned : Turned xs xs to (next_of h)
+    stop_turned =
+        let next = next_of h in
+        let f = firstly xs v next holds ordered some in
+        let none : missed to next ≡ 1
+        = missed_all to next
+        (λ j k e. ⊎_elim (λ (u : v < get_or next j 0). omega (arith, stop_short, f.first j k u)) (λ (u : get_or next j 0 ≤ v). omega arith) (cases_lt v (get_or next j 0))) in
+        record {
+          holds = holds_on xs v to next (omega arith) (λ j k u. omega (arith, stop_short, f.first j k u)) holds;
+          turns = omega (arith, none);
+        }

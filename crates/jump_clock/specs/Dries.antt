@@ -1,25 +1,13 @@
 -- The busy sessions in a heap, by the slot in which each runs dry. Assumes nothing.
-use Rattle.std.specs.Prelude.{◌≡◌, ℕ, suc, ◌+◌, ◌<◌, ◌≤◌, Bool, List, [], ◌∷◌, length, take, ◌==◌, nat_lt, slice_index_or}
+use Rattle.std.specs.Prelude.{◌≡◌, ℕ, suc, ◌+◌, List, [], ◌∷◌, ◌==◌, nat_lt}
 use Rattle.tick_machine.specs.Lists.{total, only}
-use Rattle.heap_order.specs.Heaps.{parent}
 use Rattle.slot_clock.specs.State.{SlotState}
 use Rattle.jump_clock.specs.declared.dry.Dry.{Dry}
 use Rattle.jump_clock.specs.declared.dry.Busy.{Busy}
 
--- what stands past a list's end
-abbrev pub blank : Dry
-blank = record { end = 0; session = 0 }
-
--- x runs dry before y
-abbrev pub by_end : Dry → Dry → Bool
-by_end x y = nat_lt x.end y.end
-
+-- the elements of the heap
 abbrev pub items : Busy → List Dry
-items b = take b.count b.places
-
--- none runs dry before its parent
-abbrev pub Ordered : List Dry → Type 0
-Ordered xs = (k : ℕ) → 0 < k → k < length xs → (slice_index_or xs (parent k) blank).end ≤ (slice_index_or xs k blank).end
+items b = b.places.items
 
 -- a sum over the busy sessions, from the number i on
 abbrev pub over_busy : (Dry → ℕ) → ℕ → ℕ → List ℕ → ℕ

@@ -1,17 +1,8 @@
 -- What a jump needs. Assumes nothing.
-use Rattle.std.specs.Prelude.{◌≡◌, ℕ, ◌^◌, ◌<◌, ◌≤◌, List, length, slice_index, slice_index_or}
-use Rattle.tick_machine.specs.Slots.{round_length}
-use Rattle.slot_clock.specs.Walk.{Tops}
+use Rattle.std.specs.Prelude.{ℕ, ◌<◌, ◌≤◌, List, length, slice_index}
 
 -- with V at v, the session `at` is busy and runs dry first
-pub record Ahead (ws next : List ℕ) (n v at : ℕ) : Type 0 where
-  pub whole : n ≡ round_length ws
-  pub some : 0 < n
-  pub small : n ≤ 4096
-  pub few : length ws ≤ 64
-  pub same : length next ≡ length ws
-  pub tops : Tops ws next
-  pub near : slice_index_or next at 0 ≤ 2 ^ 57
+pub record Ahead (next : List ℕ) (v at : ℕ) : Type 0 where
   pub known : at < length next
   pub busy : v < slice_index next at
   pub first : (j : ℕ) → j < length next → v < slice_index next j → slice_index next at ≤ slice_index next j

@@ -1,14 +1,16 @@
-// The heap of busy sessions, in an array.
-ghost use Rattle.std.specs.Prelude.{◌≡◌, ℕ, ◌+◌, ◌<◌, ◌≤◌, [], get_or, MatchOption, ◌≢◌, slice_index_or};
+// The heap of busy sessions.
+ghost use Rattle.std.specs.Prelude.{◌≡◌, ℕ, ◌+◌, ◌<◌, ◌≤◌, [], length, MatchOption, ◌≢◌, slice_index_or};
 ghost use Rattle.std.specs.List.Sorted.{IsPermutation};
 ghost use Rattle.heap_order.specs.Heaps.{Loose, Heavy};
-ghost use Rattle.jump_clock.specs.Dries.{by_end, blank, items, Ordered, Traded, Gained, Lost};
+ghost use Rattle.jump_clock.specs.Ends.{by_end, blank, Ordered};
 ghost use Rattle.std.proofs.Common.{rules};
 
 use crate::dry::{Busy, Dry};
+use arrayvec::ArrayVec;
 use heap_order::order::TotalOrder;
 use heap_order::sift::{sift_down, sift_up};
 
+// By hand: a derived order would break ties of the end by the session, so that "not before" would say more than the heap keeps.
 impl TotalOrder for Dry {
     ghost before = { by_end };
 
@@ -21,85 +23,79 @@ impl TotalOrder for Dry {
     }
 }
 
+// Lets the one at a place rise to where it belongs.
+fn raise(places: &mut ArrayVec<Dry, 64>, at: usize)
+    requires within { at < length places.old.items }
+    requires loose { Loose by_end places.old.items at }
+    ensures shuffled { IsPermutation places.old.items places.new.items }
+    ensures ordered { Ordered places.new.items }
+    ensures len { length places.new.items ≡ length places.old.items }
+{
+    sift_up(places.as_mut_slice(), at);
+}
+
+// Lets the one at a place sink to where it belongs.
+fn lower(places: &mut ArrayVec<Dry, 64>, at: usize)
+    requires { Heavy by_end places.old.items at }
+    ensures shuffled { IsPermutation places.old.items places.new.items }
+    ensures ordered { Ordered places.new.items }
+    ensures len { length places.new.items ≡ length places.old.items }
+{
+    sift_down(places.as_mut_slice(), at);
+}
+
 impl Busy {
+    ghost use Rattle.jump_clock.specs.Dries.{items, Traded, Gained, Lost};
+
     pub fn empty() -> Busy
         ensures { items result ≡ [] }
     {
         Busy {
-            places: [Dry { end: 0, session: 0 }; 64],
-            count: 0,
+            places: ArrayVec::new(),
         }
     }
 
-    fn raise(&mut self, at: usize)
-        requires within { at < self.old.count }
-        requires loose { Loose by_end (items self.old) at }
-        ensures shuffled { IsPermutation (items self.old) (items self.new) }
-        ensures ordered { Ordered (items self.new) }
-        ensures count { self.new.count ≡ self.old.count }
+    // The session that runs dry first, if one is busy.
+    pub fn first(&self) -> Option<Dry>
+        ensures { MatchOption result (items self.now ≡ []) (λ x. (0 < length (items self.now)) × (x ≡ slice_index_or (items self.now) 0 blank)) }
     {
-        let n = self.count;
-        sift_up(&mut self.places[0..n], at);
-    }
-
-    fn lower(&mut self, at: usize)
-        requires heavy { Heavy by_end (items self.old) at }
-        ensures shuffled { IsPermutation (items self.old) (items self.new) }
-        ensures ordered { Ordered (items self.new) }
-        ensures count { self.new.count ≡ self.old.count }
-    {
-        let n = self.count;
-        sift_down(&mut self.places[0..n], at);
+        self.places.first().copied()
     }
 
     // The first leaves.
     pub fn drop_first(&mut self)
-        requires some { 0 < self.old.count }
-        requires ordered { Ordered (items self.old) }
+        requires { 0 < length (items self.old) }
         ensures lost { Lost (items self.old) (slice_index_or (items self.old) 0 blank) (items self.new) }
-        ensures ordered { Ordered (items self.new) }
-        ensures count { self.new.count + 1 ≡ self.old.count }
+        ensures count { length (items self.new) + 1 ≡ length (items self.old) }
     {
-        let last = self.count - 1;
-        self.places[0] = self.places[last];
-        self.count = last;
-        self.lower(0);
+        self.places.swap_remove(0);
+        lower(&mut self.places, 0);
     }
 
     // One more comes.
     pub fn enter(&mut self, x: Dry)
-        requires room { self.old.count < 64 }
-        requires ordered { Ordered (items self.old) }
-        ensures gained { Gained (items self.old) x (items self.new) }
-        ensures ordered { Ordered (items self.new) }
+        requires { length (items self.old) < 64 }
+        ensures { Gained (items self.old) x (items self.new) }
     {
-        let at = self.count;
-        self.places[at] = x;
-        self.count = at + 1;
-        self.raise(at);
+        let at = self.places.len();
+        self.places.push(x);
+        raise(&mut self.places, at);
     }
 
     // The one at a place runs dry later.
     pub fn renew(&mut self, at: usize, x: Dry)
-        requires within { at < self.old.count }
-        requires ordered { Ordered (items self.old) }
-        requires later { (get_or (items self.old) at blank).end ≤ x.end }
-        ensures traded { Traded (items self.old) (slice_index_or (items self.old) at blank) x (items self.new) }
-        ensures ordered { Ordered (items self.new) }
+        requires within { at < length (items self.old) }
+        requires later { (slice_index_or (items self.old) at blank).end ≤ x.end }
+        ensures { Traded (items self.old) (slice_index_or (items self.old) at blank) x (items self.new) }
     {
         self.places[at] = x;
-        self.lower(at);
+        lower(&mut self.places, at);
     }
 
     // Where a session stands.
     pub fn find(&self, session: usize) -> Option<usize>
-        ensures { MatchOption result ((k : ℕ) → k < self.now.count → (get_or self.now.places k blank).session ≢ session) (λ i. (i < self.now.count) × ((get_or self.now.places i blank).session ≡ session)) }
+        ensures { MatchOption result ((k : ℕ) → k < length (items self.now) → (slice_index_or (items self.now) k blank).session ≢ session) (λ i. (i < length (items self.now)) × ((slice_index_or (items self.now) i blank).session ≡ session)) }
     {
-        for i in 0..self.count {
-            if self.places[i].session == session {
-                return Some(i);
-            }
-        }
-        None
+        self.places.iter().position(|dry| dry.session == session)
     }
 }

@@ -1,17 +1,20 @@
 // The busy sessions.
-ghost use Rattle.std.specs.Prelude.{◌≡◌, ◌≤◌, length};
+ghost use Rattle.std.specs.Prelude.{◌<◌, ◌≤◌, length};
+ghost use Rattle.jump_clock.specs.Ends.{Ordered};
+
+use arrayvec::ArrayVec;
 
 // A busy session, and one more than the slot in which it runs dry.
-#[derive(Clone, Copy)]
+#[derive(Clone, Copy, Default)]
 pub struct Dry {
     pub end: u64,
     pub session: usize,
 }
 
-// The first places, as many as `count`, are in use, as a heap.
+// The busy sessions, as a heap.
 #[derive(Drop)]
 pub struct Busy {
-    pub places: [Dry; 64],
-    pub count: usize,
-    ghost fits: { (length places ≡ 64) × (count ≤ 64) },
+    pub places: ArrayVec<Dry, 64>,
+    ghost few: { length places.items ≤ 64 },
+    ghost ordered: { Ordered places.items },
 }

@@ -1,9 +1,11 @@
 // The slot clock that jumps from one slot in which a session runs dry to the next.
-ghost use Rattle.std.specs.Prelude.{◌≡◌, ◌+◌, ◌<◌, ◌≤◌, max, Ok, Err, MatchResult, slice_index, slice_set};
-ghost use Rattle.slot_clock.specs.Calls.{run_answer, run_after};
+ghost use Rattle.std.specs.Prelude.{◌≡◌, ◌+◌, ◌≤◌, length, Ok, Err, MatchResult};
+ghost use Rattle.tick_machine.specs.Lists.{final};
+ghost use Rattle.tick_machine.specs.Slots.{own_slots};
+ghost use Rattle.slot_clock.specs.Calls.{add_answer, add_after, run_answer, run_after};
 ghost use Rattle.slot_clock.specs.Walk.{ticks_cursor};
-ghost use Rattle.slot_clock.specs.Held.{weights_of, next_of, held_state};
-ghost use Rattle.jump_clock.specs.Dries.{items, Ordered, Holds, busy_sessions, missed, halfway};
+ghost use Rattle.slot_clock.specs.Held.{weights_of, next_of, held_state, Room};
+ghost use Rattle.jump_clock.specs.Dries.{items, Holds, busy_sessions, halfway};
 ghost use Rattle.slot_clock.specs.Holding.{held_served, held_sized, held_early, held_near};
 
 use crate::dry::{Busy, Dry};
@@ -16,48 +18,28 @@ use slot_clock::refusal::ClockRefusal;
 pub struct JumpClock {
     held: Held,
     busy: Busy,
-    ghost ordered: { Ordered (items busy) },
     ghost holds: { Holds (items busy) held.cursor (next_of held) },
 }
 
-// One jump: V and the ticks that are left. A session that has run dry leaves the heap.
-fn once(held: &Held, busy: &mut Busy, v: u64, left: u64) -> (u64, u64)
-    requires some { 0 < busy.old.count }
-    requires ordered { Ordered (items busy.old) }
-    requires holds { Holds (items busy.old) v (next_of held.now) }
-    requires ticks { 1 ≤ left }
-    requires few { left ≤ 17592186044416 }
-    ensures goes { ticks_cursor (weights_of held.now) (next_of held.now) result.1 result.0 ≡ ticks_cursor (weights_of held.now) (next_of held.now) left v }
-    ensures less { result.1 < left }
-    ensures ordered { Ordered (items busy.new) }
-    ensures holds { Holds (items busy.new) result.0 (next_of held.now) }
-    ensures ahead { v < result.0 }
-    ensures turns { busy.new.count + 1 ≡ busy.old.count + missed result.0 (next_of held.now) }
-    ensures rest { 1 ≤ result.1 → missed result.0 (next_of held.now) ≡ 0 }
-{
-    let first = busy.places[0].session;
-    let (to, rest) = jump(held.weights(), held.round, held.nexts(), v, first, left);
-    if to == held.next[first] {
-        busy.drop_first();
-    }
-    (to, rest)
-}
-
-// V after so many ticks, and in how many jumps.
+// V after so many ticks, and in how many jumps. A session that has run dry leaves the heap.
 fn run_on(held: &Held, busy: &mut Busy, ticks: u64) -> (u64, u64)
-    requires ordered { Ordered (items busy.old) }
     requires holds { Holds (items busy.old) held.now.cursor (next_of held.now) }
     requires few { ticks ≤ 17592186044416 }
     ensures is { result.0 ≡ ticks_cursor (weights_of held.now) (next_of held.now) ticks held.now.cursor }
-    ensures ordered { Ordered (items busy.new) }
     ensures holds { Holds (items busy.new) result.0 (next_of held.now) }
-    ensures jumps { result.1 + busy.new.count ≡ busy.old.count + halfway held.now.cursor result.0 (next_of held.now) }
+    ensures jumps { result.1 + length (items busy.new) ≡ length (items busy.old) + halfway held.now.cursor result.0 (next_of held.now) }
 {
     let mut v = held.cursor;
     let mut left = ticks;
     let mut jumps = 0;
-    while left > 0 && busy.count > 0 {
-        let (to, rest) = once(held, busy, v, left);
+    while left > 0 {
+        let Some(first) = busy.first() else {
+            break;
+        };
+        let (to, rest) = jump(held, v, first.session, left);
+        if to == first.end {
+            busy.drop_first();
+        }
         v = to;
         left = rest;
         jumps += 1;
@@ -65,22 +47,25 @@ fn run_on(held: &Held, busy: &mut Busy, ticks: u64) -> (u64, u64)
     (v, jumps)
 }
 
-// The session's slots now go on to this end.
-fn note(held: &Held, busy: &mut Busy, session: usize, end: u64)
-    requires ordered { Ordered (items busy.old) }
-    requires holds { Holds (items busy.old) held.now.cursor (next_of held.now) }
-    requires known { session < held.now.sessions }
-    requires later { max held.now.cursor (slice_index (next_of held.now) session) < end }
-    ensures ordered { Ordered (items busy.new) }
-    ensures holds { Holds (items busy.new) held.now.cursor (slice_set (next_of held.now) session end) }
-{
-    match busy.find(session) {
-        Some(at) => busy.renew(at, Dry { end, session }),
-        None => busy.enter(Dry { end, session }),
-    }
-}
-
 impl JumpClock {
+    // The session gets every slot of its own up to the stamp, and is busy until it.
+    fn grant(&mut self, session: u64, size: u64, from: u64, stamp: u64)
+        requires room { Room self.old.held session size from }
+        requires stamp { stamp ≡ final 0 (own_slots (weights_of self.old.held) session size from) }
+        ensures answer { add_answer (held_state self.old.held) session size ≡ Ok stamp }
+        ensures after { held_state self.new.held ≡ add_after (held_state self.old.held) session size }
+    {
+        let dry = Dry {
+            end: stamp + 1,
+            session: session as usize,
+        };
+        match self.busy.find(dry.session) {
+            Some(at) => self.busy.renew(at, dry),
+            None => self.busy.enter(dry),
+        }
+        self.held.grant(session, size, from, stamp);
+    }
+
     // Runs, and answers in how many jumps: one for each session that runs dry in the ticks, and one more if the slot served
     // last was not its session's last.
     pub fn run_told(&mut self, ticks: u64) -> Result<u64, ClockRefusal>
@@ -94,6 +79,7 @@ impl JumpClock {
     }
 }
 
+// Readings and laws are those of `Held`, as in `StepClock`: each impl of the trait names them itself, which is no twin's code.
 impl SlotClock for JumpClock {
     ghost state = { λ c. held_state c.held };
 
@@ -116,8 +102,7 @@ impl SlotClock for JumpClock {
     fn add(&mut self, session: u64, size: u64) -> Result<u64, ClockRefusal> {
         let from = self.held.room(session, size)?;
         let stamp = jump_stamp(&self.held, session, size, from);
-        note(&self.held, &mut self.busy, session as usize, stamp + 1);
-        self.held.grant(session, size, from, stamp);
+        self.grant(session, size, from, stamp);
         Ok(stamp)
     }
 

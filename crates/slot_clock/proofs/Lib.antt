@@ -1,4 +1,3 @@
 pub mod Making
-pub mod Masks
 pub mod Steps
 pub mod Servers

@@ -1,14 +1,14 @@
 -- What the numbers that a slot clock holds mean. Assumes nothing.
-use Rattle.std.specs.Prelude.{◌≡◌, ℕ, ◌+◌, ◌<◌, ◌≤◌, max, List, take, slice_index}
+use Rattle.std.specs.Prelude.{◌≡◌, ℕ, ◌+◌, ◌<◌, ◌≤◌, max, List, length, slice_index}
 use Rattle.tick_machine.specs.Owed.{shown_round}
 use Rattle.slot_clock.specs.declared.held.Held.{Held}
 use Rattle.slot_clock.specs.State.{SlotState, state_of}
 
 abbrev pub weights_of : Held → List ℕ
-weights_of h = take h.sessions h.weights
+weights_of h = h.layout.weights.items
 
 abbrev pub next_of : Held → List ℕ
-next_of h = take h.sessions h.next
+next_of h = h.next.items
 
 -- its meaning
 unfoldable pub held_state : Held → SlotState
@@ -16,7 +16,7 @@ held_state h = state_of (weights_of h) h.ticks (shown_round (weights_of h) h.cur
 
 -- a packet of n bytes of session i may be added, and its slots are looked for from q on
 pub record Room (h : Held) (i n q : ℕ) : Type 0 where
-  pub known : i < h.sessions
+  pub known : i < length (weights_of h)
   pub long : 1 ≤ n
   pub short : n ≤ 65535
   pub fits : h.owed + n ≤ 67107840

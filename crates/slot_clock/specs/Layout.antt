@@ -1,15 +1,15 @@
--- Ranks of slots, where each session owns a block of positions. A mask says of each session whether its slots count. Assumes nothing.
-use Rattle.std.specs.Prelude.{ℕ, suc, ◌+◌, ◌-◌, min, Bool, false, cond, List, [], ◌∷◌, nat_lt, slice_index_or}
+-- Ranks of slots, where each session owns a block of positions. A test b says of each session whether its slots count. Assumes nothing.
+use Rattle.std.specs.Prelude.{◌≡◌, ℕ, suc, ◌+◌, ◌-◌, min, Bool, cond, List, [], ◌∷◌, nat_lt}
 use Rattle.tick_machine.specs.Lists.{only}
 use Rattle.tick_machine.specs.Slots.{owner}
 
--- whether the slots of session j count
-abbrev pub marked : List Bool → ℕ → Bool
-marked mask j = slice_index_or mask j false
+-- whatever a call may answer is what the test b says; `gives j r` is that the call at session j may answer r
+abbrev pub Tells : (ℕ → Bool → Type 0) → (ℕ → Bool) → Type 0
+Tells gives b = (j : ℕ) (r : Bool) → gives j r → r ≡ b j
 
 -- whether slot q counts
-abbrev pub counted : List ℕ → List Bool → ℕ → Bool
-counted ws mask q = marked mask (owner ws q)
+abbrev pub counted : List ℕ → (ℕ → Bool) → ℕ → Bool
+counted ws b q = b (owner ws q)
 
 -- how many positions of the round count, of the sessions from i on
 abbrev pub whole : (ℕ → Bool) → ℕ → List ℕ → ℕ

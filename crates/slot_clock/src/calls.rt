@@ -1,71 +1,40 @@
 // What all slot clocks do alike with what they hold.
-ghost use Rattle.std.specs.Prelude.{◌≡◌, ◌+◌, ◌-◌, ◌*◌, ◌<◌, ◌≤◌, ◌&&◌, length, take, replicate, IfOk, if◌then◌else◌, Some, None, Ok, Err, MatchResult, nat_le, slice_set};
+ghost use Rattle.std.specs.Prelude.{◌≡◌, ◌+◌, ◌-◌, ◌*◌, ◌<◌, ◌≤◌, length, replicate, IfOk, Ok, Err, MatchResult, slice_set};
 ghost use Rattle.tick_machine.specs.Lists.{final};
-ghost use Rattle.tick_machine.specs.Slots.{round_length, own_slots};
-ghost use Rattle.slot_clock.specs.Calls.{no_zero, made_answer, made_state, add_answer, add_after, run_answer, run_after, owed_answer};
+ghost use Rattle.tick_machine.specs.Slots.{own_slots};
+ghost use Rattle.slot_clock.specs.Calls.{made_answer, made_state, add_answer, add_after, run_answer, run_after, owed_answer};
 ghost use Rattle.slot_clock.specs.Walk.{ticks_cursor};
 ghost use Rattle.slot_clock.specs.Held.{weights_of, next_of, held_state, Room};
 
 use crate::held::Held;
-use crate::layout::rank_of;
-use crate::mask::alone;
+use crate::layout::Layout;
 use crate::refusal::ClockRefusal;
-
-// The number of slots in a round, if no weight is 0 and the sum is at most 4,096.
-fn round_of(weights: &[u64]) -> Option<u64>
-    ensures { result ≡ (if no_zero weights.now && nat_le (round_length weights.now) 4096 then Some (round_length weights.now) else None) }
-{
-    let mut sum = 0;
-    for w in weights {
-        if *w == 0 || *w > 4096 - sum {
-            return None;
-        }
-        sum += *w;
-    }
-    Some(sum)
-}
-
-// The weights in the first places of an array.
-fn placed(weights: &[u64]) -> [u64; 64]
-    requires { length weights.now ≤ 64 }
-    ensures { (length result ≡ 64) × (take (length weights.now) result ≡ weights.now) }
-{
-    let mut places = [0; 64];
-    places[0..weights.len()].copy_from_slice(weights);
-    places
-}
+use arrayvec::ArrayVec;
 
 impl Held {
     pub fn weights(&self) -> &[u64]
         ensures { result.now ≡ weights_of self.now }
     {
-        &self.weights[0..self.sessions]
+        &self.layout.weights
     }
 
     pub fn nexts(&self) -> &[u64]
         ensures { result.now ≡ next_of self.now }
     {
-        &self.next[0..self.sessions]
+        &self.next
     }
 
     // Nothing is owed, and no tick has passed.
     pub fn make(weights: &[u64]) -> Result<Held, ClockRefusal>
         ensures made { made_state held_state result ≡ made_answer weights.now }
-        ensures fresh { IfOk result (λ h. (h.cursor ≡ 0) × (next_of h ≡ replicate h.sessions 0)) }
+        ensures fresh { IfOk result (λ h. (h.cursor ≡ 0) × (next_of h ≡ replicate (length weights.now) 0)) }
     {
-        if weights.is_empty() || weights.len() > 64 {
-            return Err(ClockRefusal::Sessions);
-        }
-        let Some(round) = round_of(weights) else {
-            return Err(ClockRefusal::Weights);
-        };
-        let sessions = weights.len();
-        let weights = placed(weights);
+        let layout = Layout::make(weights)?;
+        let mut next = ArrayVec::from([0; 64]);
+        next.truncate(weights.len());
         Ok(Held {
-            weights,
-            next: [0; 64],
-            sessions,
-            round,
+            layout,
+            next,
             cursor: 0,
             ticks: 0,
             owed: 0,
@@ -76,16 +45,16 @@ impl Held {
     pub fn room(&self, session: u64, size: u64) -> Result<u64, ClockRefusal>
         ensures { MatchResult result (λ q. Room self.now session size q) (λ e. add_answer (held_state self.now) session size ≡ Err e) }
     {
-        if session >= self.sessions as u64 {
+        let Some(next) = self.next.get(session as usize) else {
             return Err(ClockRefusal::UnknownSession);
-        }
+        };
         if size == 0 || size > 65535 {
             return Err(ClockRefusal::Size);
         }
         if self.owed + size > 67107840 {
             return Err(ClockRefusal::TooMuchOwed);
         }
-        Ok(self.cursor.max(self.next[session as usize]))
+        Ok(self.cursor.max(*next))
     }
 
     // The session gets every slot of its own up to the stamp.
@@ -134,12 +103,11 @@ impl Held {
     pub fn owed_to(&self, session: u64) -> Result<u64, ClockRefusal>
         ensures { result ≡ owed_answer (held_state self.now) session }
     {
-        if session >= self.sessions as u64 {
+        let session = session as usize;
+        let Some(next) = self.next.get(session) else {
             return Err(ClockRefusal::UnknownSession);
-        }
-        let i = session as usize;
-        let mask = alone(i);
-        let until = rank_of(self.weights(), self.round, &mask, self.next[i]);
-        Ok(until.saturating_sub(rank_of(self.weights(), self.round, &mask, self.cursor)))
+        };
+        let until = self.layout.own_below(session, *next);
+        Ok(until.saturating_sub(self.layout.own_below(session, self.cursor)))
     }
 }

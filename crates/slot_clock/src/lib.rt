@@ -6,7 +6,6 @@ pub mod calls;
 pub mod clock;
 pub mod held;
 pub mod layout;
-pub mod mask;
 pub mod refusal;
 pub mod step;
 pub mod theorems;

@@ -1,33 +1,24 @@
 // A slot clock that goes slot by slot. It looks at one slot after another and asks whose it is; it stops once as many
 // were served as ticks passed or as bytes were owed, so that it does not go on when nothing is owed.
-ghost use Rattle.std.specs.Prelude.{◌≡◌, ◌+◌, ◌*◌, ◌^◌, ◌<◌, ◌≤◌, true, length};
+ghost use Rattle.std.specs.Prelude.{◌≡◌, ◌+◌, ◌<◌, ◌≤◌};
 ghost use Rattle.tick_machine.specs.Lists.{final};
-ghost use Rattle.tick_machine.specs.Slots.{round_length, own_slots};
-ghost use Rattle.tick_machine.specs.Owed.{owed_slots};
-ghost use Rattle.slot_clock.specs.Calls.{no_zero};
-ghost use Rattle.slot_clock.specs.Walk.{ticks_cursor, Tops};
+ghost use Rattle.tick_machine.specs.Slots.{own_slots};
+ghost use Rattle.slot_clock.specs.Walk.{ticks_cursor};
 ghost use Rattle.slot_clock.specs.Held.{weights_of, next_of, held_state, Room};
 ghost use Rattle.slot_clock.specs.Holding.{held_served, held_sized, held_early, held_near};
 
 use crate::clock::SlotClock;
 use crate::held::Held;
-use crate::layout::owner_of;
 use crate::refusal::ClockRefusal;
 
-// V after so many ticks.
-fn walk(weights: &[u64], round: u64, next: &[u64], cursor: u64, owed: u64, ticks: u64) -> u64
-    requires whole { round ≡ round_length weights.now }
-    requires some { 0 < round }
-    requires same { length next.now ≡ length weights.now }
-    requires tops { Tops weights.now next.now }
-    requires owed { owed ≡ length (owed_slots weights.now cursor next.now) }
-    ensures { result ≡ ticks_cursor weights.now next.now ticks cursor }
+// V after so many ticks. A `while`, as it looks at slots until enough were served: no range ends there.
+fn after(held: &Held, ticks: u64) -> u64
+    ensures { result ≡ ticks_cursor (weights_of held.now) (next_of held.now) ticks held.now.cursor }
 {
-    let mut v = cursor;
-    let mut left = ticks.min(owed);
+    let mut v = held.cursor;
+    let mut left = ticks.min(held.owed);
     while left > 0 {
-        let session = owner_of(weights, round, v);
-        if v < next[session] {
+        if v < held.next[held.layout.owner(v)] {
             left -= 1;
         }
         v += 1;
@@ -35,45 +26,20 @@ fn walk(weights: &[u64], round: u64, next: &[u64], cursor: u64, owed: u64, ticks
     v
 }
 
-// The stamp: the highest of the session's so many lowest slots from a slot on.
-fn walk_stamp(weights: &[u64], round: u64, session: usize, size: u64, from: u64) -> u64
-    requires whole { round ≡ round_length weights.now }
-    requires some { 0 < round }
-    requires each { no_zero weights.now ≡ true }
-    requires known { session < length weights.now }
-    requires long { 1 ≤ size }
-    requires near { from + size * round < 2 ^ 62 }
-    ensures { result ≡ final 0 (own_slots weights.now session size from) }
+// The stamp: the highest of the session's so many lowest slots from a slot on. A `while`, as no range ends at it.
+fn stamp_of(held: &Held, session: u64, size: u64, from: u64) -> u64
+    requires { Room held.now session size from }
+    ensures { result ≡ final 0 (own_slots (weights_of held.now) session size from) }
 {
     let mut q = from;
     let mut left = size;
     while left > 0 {
-        if owner_of(weights, round, q) == session {
+        if held.layout.owner(q) == session as usize {
             left -= 1;
         }
         q += 1;
     }
     q - 1
-}
-
-fn stamp_of(held: &Held, session: u64, size: u64, from: u64) -> u64
-    requires { Room held.now session size from }
-    ensures { result ≡ final 0 (own_slots (weights_of held.now) session size from) }
-{
-    walk_stamp(held.weights(), held.round, session as usize, size, from)
-}
-
-fn after(held: &Held, ticks: u64) -> u64
-    ensures { result ≡ ticks_cursor (weights_of held.now) (next_of held.now) ticks held.now.cursor }
-{
-    walk(
-        held.weights(),
-        held.round,
-        held.nexts(),
-        held.cursor,
-        held.owed,
-        ticks,
-    )
 }
 
 #[derive(Drop)]

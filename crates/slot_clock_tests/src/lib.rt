@@ -1,4 +1,4 @@
-// Both slot clocks through the same rows, and side by side on drawn steps.
+// Both slot clocks through the same steps, and side by side on drawn calls.
 
 #![tactic(auto)]
 
@@ -9,10 +9,11 @@ mod tables;
 
 #[cfg(test)]
 mod tests {
-    use crate::step::{compared, filled, follow, refused};
+    use crate::step::{Step, compared, filled, follow, refused};
     use crate::tables;
     use jump_clock::jump::JumpClock;
     use slot_clock::clock::SlotClock;
+    use slot_clock::refusal::ClockRefusal;
     use slot_clock::step::StepClock;
     use std::process::Abort;
     use std::test::Fail;
@@ -23,35 +24,46 @@ mod tests {
         49, 50, 51, 52, 53, 54, 55, 56, 57, 58, 59, 60, 61, 62, 63, 64,
     ];
 
-    fn both(
-        rt: &impl Abort,
-        weights: &[u64],
-        rows: &[(crate::step::Step, crate::step::Outcome)],
-    ) -> Result<(), Fail> {
-        follow::<StepClock>(rt, weights, rows)?;
-        follow::<JumpClock>(rt, weights, rows)
+    fn both(rt: &impl Abort, weights: &[u64], steps: &[Step]) -> Result<(), Fail> {
+        follow::<StepClock>(rt, weights, steps)?;
+        follow::<JumpClock>(rt, weights, steps)
     }
 
-    // The numbers of making's refusals.
-    fn both_refuse(rt: &impl Abort, weights: &[u64], number: u64) {
-        assert_eq!(rt; refused::<StepClock>(weights), number);
-        assert_eq!(rt; refused::<JumpClock>(weights), number);
+    // Why making was refused, if it was.
+    fn both_made(rt: &impl Abort, weights: &[u64], refusal: Option<ClockRefusal>) {
+        assert_eq!(rt; refused::<StepClock>(weights), refusal);
+        assert_eq!(rt; refused::<JumpClock>(weights), refusal);
+    }
+
+    #[test]
+    fn numbers_of_refusals(rt: HostRuntime) {
+        let numbers = [
+            (ClockRefusal::Sessions, 81),
+            (ClockRefusal::Weights, 82),
+            (ClockRefusal::UnknownSession, 83),
+            (ClockRefusal::Size, 84),
+            (ClockRefusal::TooMuchOwed, 85),
+            (ClockRefusal::TicksPastEnd, 86),
+        ];
+        for (refusal, number) in numbers {
+            assert_eq!(rt; refusal.number(), number);
+        }
     }
 
     #[test]
     fn too_few_or_many_sessions(rt: HostRuntime) {
-        both_refuse(&rt, &[], 81);
-        both_refuse(&rt, &[1; 65], 81);
-        both_refuse(&rt, &[0; 65], 81);
+        both_made(&rt, &[], Some(ClockRefusal::Sessions));
+        both_made(&rt, &[1; 65], Some(ClockRefusal::Sessions));
+        both_made(&rt, &[0; 65], Some(ClockRefusal::Sessions));
     }
 
     #[test]
     fn weights_out_of_bounds(rt: HostRuntime) {
-        both_refuse(&rt, &[0], 82);
-        both_refuse(&rt, &[5, 0, 7], 82);
-        both_refuse(&rt, &[4097], 82);
-        both_refuse(&rt, &[4096, 1], 82);
-        both_refuse(&rt, &[64; 64], 0);
+        both_made(&rt, &[0], Some(ClockRefusal::Weights));
+        both_made(&rt, &[5, 0, 7], Some(ClockRefusal::Weights));
+        both_made(&rt, &[4097], Some(ClockRefusal::Weights));
+        both_made(&rt, &[4096, 1], Some(ClockRefusal::Weights));
+        both_made(&rt, &[64; 64], None);
     }
 
     #[test]

@@ -1,40 +1,62 @@
-use Rattle.std.proofs.Common.{◌≡◌, ◌<◌, length, sym, refl, ◌∙◌, arith}
+use Rattle.std.proofs.Common.{◌≡◌, ◌<◌, ◌≤◌, length, get_or, sym, ap, ◌∙◌, subst, arith}
 use Rattle.slot_clock.specs.Held.{weights_of, next_of}
-use Rattle.jump_clock.specs.Dries.{items}
-use Rattle.jump_clock.proofs.Busies.{none, items_are, halfway_moved, halfway_still}
+use Rattle.jump_clock.specs.Ends.{blank}
+use Rattle.jump_clock.specs.Dries.{items, Holds}
+use Rattle.jump_clock.specs.Jumps.{Ahead}
+use Rattle.jump_clock.specs.declared.dry.Dry.{Dry}
+use Rattle.jump_clock.proofs.Busies.{none, firstly, halfway_moved}
+use Rattle.jump_clock.proofs.Runs.{dry_missed, dry_turned, stop_short, stop_turned}
 use Rattle.jump_clock.proofs.Leaps.{none_busy}
 use Rattle.jump_clock.proofs.jump.run_on.Goals as goal
+use Rattle.jump_clock.proofs.jump.run_on.Goals.{then-to-first, else-to-first}
 
-pub returns-else-busy-gt0 : goal.returns-else-busy-gt0
-returns-else-busy-gt0 c =
-    let h = c.args.held.now in
+pub jump-to-requires-clause-ahead : goal.jump-to-requires-clause-ahead
+jump-to-requires-clause-ahead c =
     let b = c.loop-left.busy in
-    let i = c.loop-left.invariant in
-    let z : length (items b) ≡ 0 = omega (arith, items_are b, c.if-busy-gt0.false) in
-    record {
-      is = sym (none_busy (weights_of h) (next_of h) c.loop-left.left c.loop-left.v (none (items b) c.loop-left.v (next_of h) i.3 z)) ∙ i.0;
-      ordered = i.2;
-      holds = i.3;
-      jumps = i.5;
-    }
+    let f = c.in-Some.ensures in
+    subst (λ (x : Dry). Ahead (next_of c.args.held.now) c.loop-left.v x.session) (sym f.1) (firstly (items b) c.loop-left.v (next_of c.args.held.now) c.loop-left.invariant.2 b.ordered f.0)
 
-pub loop-left-init : goal.loop-left-init
-loop-left-init c =
+pub returns-in_default-clause-is : goal.returns-in_default-clause-is
+returns-in_default-clause-is c =
     let h = c.args.held.now in
-    let z = halfway_still h.cursor (next_of h) in
-    (refl, omega arith, c.requires.ordered, c.requires.holds, omega arith, omega (arith, z), λ _. z)
-
-pub overflow_add-jumps : goal.overflow_add-jumps
-overflow_add-jumps c =
-    let i = c.loop-left.invariant in
-    omega (arith, i.5, i.6 c.loop-left-test.true, c.args.busy.now.fits.1)
+    sym (none_busy (weights_of h) (next_of h) c.loop-left.left c.loop-left.v (none (items c.loop-left.busy) c.loop-left.v (next_of h) c.loop-left.invariant.2 (ap length c.in_default.ensures))) ∙ c.loop-left.invariant.0
 
 pub loop-left-preserved : goal.loop-left-preserved
 loop-left-preserved c =
     let h = c.args.held.now in
+    let next = next_of h in
+    let b = c.loop-left.busy in
+    let xs = items b in
+    let v = c.loop-left.v in
     let i = c.loop-left.invariant in
-    let o = c.once-to.ensures in
-    let to = c.once-to.result.0 in
-    let past : h.cursor < to = omega (arith, i.4, o.ahead) in
-    let m = halfway_moved h.cursor to (next_of h) past in
-    (o.goes ∙ i.0, omega (arith, o.less, i.1), o.ordered, o.holds, omega arith, omega (arith, o.turns, i.5, i.6 c.loop-left-test.true, m), λ z. m ∙ o.rest z)
+    let o = c.jump-to.ensures in
+    let to = c.jump-to.result.0 in
+    let f = c.in-Some.ensures in
+    let ends : c.in-Some.first.end ≡ (get_or xs 0 blank).end = ap (λ (x : Dry). x.end) f.1 in
+    let past : h.cursor < to = omega (arith, i.3, o.ahead) in
+    let m = halfway_moved h.cursor to next past in
+    elim c.if-to-first.branch [
+      | then-to-first w ↦
+          let e : to ≡ (get_or xs 0 blank).end = w.if-to-first.true ∙ ends in
+          let t = dry_turned h xs v i.2 b.ordered f.0 (items w.drop_first.new.self) to e w.drop_first.ensures.lost w.drop_first.ensures.count in
+          let same : items c.if-to-first.busy ≡ items w.drop_first.new.self = ap items w.busy-is in (
+            o.goes ∙ i.0,
+            omega (arith, o.less, i.1),
+            subst (λ ys. Holds ys to next) (sym same) t.holds,
+            omega (arith, past),
+            omega (arith, ap length same, t.turns, i.4, i.5 c.loop-left-test.true, m),
+            λ z. m ∙ dry_missed h xs v i.2 b.ordered f.0 to e,
+          )
+      | else-to-first w ↦
+          let apart : to ≡ (get_or xs 0 blank).end → ⊥ = λ e. w.if-to-first.false (e ∙ sym ends) in
+          let within : to ≤ get_or next (get_or xs 0 blank).session 0 = omega (arith, o.within, ap (λ (x : Dry). get_or next x.session 0) f.1) in
+          let t = stop_turned h xs v i.2 b.ordered f.0 to o.ahead within apart in
+          let same : items c.if-to-first.busy ≡ xs = ap items w.busy-is in (
+            o.goes ∙ i.0,
+            omega (arith, o.less, i.1),
+            subst (λ ys. Holds ys to next) (sym same) t.holds,
+            omega (arith, past),
+            omega (arith, ap length same, t.turns, i.4, i.5 c.loop-left-test.true, m),
+            λ z. absurd (omega (arith, stop_short h xs v i.2 b.ordered f.0 to o.ahead within apart, o.dry z, ap (λ (x : Dry). get_or next x.session 0) f.1)),
+          )
+    ]

@@ -1,81 +1,88 @@
-use Rattle.std.proofs.Common.{◌≡◌, ℕ, ◌+◌, ◌-◌, ◌<◌, ◌≤◌, get_or, refl, arith}
+use Rattle.std.proofs.Common.{◌≡◌, ◌+◌, ◌-◌, ◌<◌, get_or, sym, refl, ap, subst, rules, arith}
 use Rattle.tick_machine.specs.Lists.{count}
 use Rattle.slot_clock.specs.Layout.{counted}
-use Rattle.jump_clock.proofs.Leaps.{busy_hit, rises, dry_some, dry_goes, stop_from, stop_below, stop_goes, jump_near}
+use Rattle.slot_clock.specs.Walk.{ticks_cursor}
+use Rattle.slot_clock.specs.Held.{weights_of, next_of}
+use Rattle.jump_clock.specs.Jumps.{Ahead}
+use Rattle.jump_clock.proofs.Leaps.{busy, busy_hit, rises, dry_some, dry_goes, stop_from, stop_below, stop_goes, next_near, jump_near}
 use Rattle.jump_clock.proofs.jumping.jump.Goals as goal
 
 pub overflow_sub-through : goal.overflow_sub-through
 overflow_sub-through c =
+    let h = c.args.held.now in
+    let next = c.nexts-next.result.now in
+    let b = busy c.args.v next in
+    let a = subst (λ n. Ahead n c.args.v c.args.at) (sym c.nexts-next.ensures) c.requires.ahead in
     omega (
       arith,
-      rises c.args.weights.now c.args.next.now c.args.round c.args.v c.args.at c.requires.ahead c.busy_mask-mask.result c.busy_mask-mask.ensures.1,
-      c.rank_of-before.ensures.is,
-      c.rank_of.ensures.is,
+      rises h next c.nexts-next.ensures c.args.v c.args.at a,
+      c.rank-before.ensures.is b (λ j r p. search rules),
+      c.rank.ensures.is b (λ j r p. search rules),
     )
 
-pub slot_from-requires : goal.slot_from-requires
-slot_from-requires c =
-    let h = c.requires.ahead in
-    let ws = c.args.weights.now in
-    let next = c.args.next.now in
-    record {
-      whole = h.whole;
-      some = h.some;
-      small = h.small;
-      same = omega (arith, h.few, c.busy_mask-mask.ensures.0);
-      hit = busy_hit ws next c.args.round c.args.v c.args.at h c.busy_mask-mask.result c.busy_mask-mask.ensures.1;
-      near = jump_near ws next c.args.round c.args.v c.args.at h c.busy_mask-mask.result c.busy_mask-mask.ensures.1 c.args.left c.requires.ticks c.requires.few;
-    }
+pub slot_from-requires-clause-hit : goal.slot_from-requires-clause-hit
+slot_from-requires-clause-hit c =
+    let next = c.nexts-next.result.now in
+    let a = subst (λ n. Ahead n c.args.v c.args.at) (sym c.nexts-next.ensures) c.requires.ahead in
+    (busy c.args.v next, λ j r p. search rules, busy_hit c.args.held.now next c.nexts-next.ensures c.args.v c.args.at a)
 
-fewer : (before through left x y : ℕ) → before ≤ through → before ≡ x → through ≡ y → left < through - before → x + left < y
-fewer before through left x y l e f h = omega arith
-
-pub overflow_add-result : goal.overflow_add-result
-overflow_add-result c =
-    let h = c.requires.ahead in
-    let ws = c.args.weights.now in
-    let next = c.args.next.now in
-    let mask = c.busy_mask-mask.result in
-    let is = c.busy_mask-mask.ensures.1 in
-    let up = rises ws next c.args.round c.args.v c.args.at h mask is in
-    let less : count (counted ws mask) c.args.v + c.args.left < count (counted ws mask) (get_or next c.args.at 0)
-    = fewer c.rank_of-before.result c.rank_of.result c.args.left _ _ (omega (arith, up, c.rank_of-before.ensures.is, c.rank_of.ensures.is)) c.rank_of-before.ensures.is c.rank_of.ensures.is c.if-through-left.false in
-    omega (arith, h.near, stop_below ws next c.args.round c.args.v c.args.at h mask is c.args.left c.slot_from.result c.requires.ticks less c.slot_from.ensures.counts c.slot_from.ensures.rank)
+pub slot_from-requires-clause-near : goal.slot_from-requires-clause-near
+slot_from-requires-clause-near c =
+    jump_near c.args.held.now (next_of c.args.held.now) refl c.args.v c.args.at c.requires.ahead c.args.left c.requires.ticks c.requires.few
 
 pub returns-then-through-left : goal.returns-then-through-left
 returns-then-through-left c =
-    let h = c.requires.ahead in
-    let ws = c.args.weights.now in
-    let next = c.args.next.now in
-    let mask = c.busy_mask-mask.result in
-    let is = c.busy_mask-mask.ensures.1 in
-    let through = c.rank_of.result - c.rank_of-before.result in
-    let up = rises ws next c.args.round c.args.v c.args.at h mask is in
-    let e : count (counted ws mask) c.args.v + through ≡ count (counted ws mask) (get_or next c.args.at 0) = omega (arith, up, c.rank_of-before.ensures.is, c.rank_of.ensures.is) in
-    let some = dry_some ws next c.args.round c.args.v c.args.at h mask is through c.args.left e c.if-through-left.true in
+    let h = c.args.held.now in
+    let next = c.nexts-next.result.now in
+    let same = c.nexts-next.ensures in
+    let v = c.args.v in
+    let at = c.args.at in
+    let b = busy v next in
+    let a = subst (λ n. Ahead n v at) (sym same) c.requires.ahead in
+    let through = c.rank.result - c.rank-before.result in
+    let e : count (counted (weights_of h) b) v + through ≡ count (counted (weights_of h) b) (get_or next at 0)
+    = omega (arith, rises h next same v at a, c.rank-before.ensures.is b (λ j r p. search rules), c.rank.ensures.is b (λ j r p. search rules)) in
+    let some = dry_some h next same v at a through c.args.left e c.if-through-left.true in
     record {
-      goes = dry_goes ws next c.args.round c.args.v c.args.at h mask is through c.args.left e c.if-through-left.true;
+      goes = subst (λ n. ticks_cursor (weights_of h) n (c.args.left - through) (get_or next at 0) ≡ ticks_cursor (weights_of h) n c.args.left v) same (dry_goes h next same v at a through c.args.left e c.if-through-left.true);
       less = omega (arith, some, c.requires.ticks);
-      within = omega arith;
-      ahead = h.busy;
-      dry = λ _. refl;
+      within = omega (arith, ap (λ n. get_or n at 0) same);
+      ahead = a.busy;
+      dry = λ _. ap (λ n. get_or n at 0) same;
     }
+
+pub overflow_add-result : goal.overflow_add-result
+overflow_add-result c =
+    let h = c.args.held.now in
+    let next = c.nexts-next.result.now in
+    let same = c.nexts-next.ensures in
+    let v = c.args.v in
+    let at = c.args.at in
+    let b = busy v next in
+    let a = subst (λ n. Ahead n v at) (sym same) c.requires.ahead in
+    let less : count (counted (weights_of h) b) v + c.args.left < count (counted (weights_of h) b) (get_or next at 0)
+    = omega (arith, rises h next same v at a, c.rank-before.ensures.is b (λ j r p. search rules), c.rank.ensures.is b (λ j r p. search rules), c.if-through-left.false) in
+    let below = stop_below h next same v at a c.args.left c.slot_from.result c.requires.ticks less (c.slot_from.ensures.counts b (λ j r p. search rules)) (c.slot_from.ensures.rank b (λ j r p. search rules)) in
+    omega (arith, below, next_near h next same v at a)
 
 pub returns-else-through-left : goal.returns-else-through-left
 returns-else-through-left c =
-    let h = c.requires.ahead in
-    let ws = c.args.weights.now in
-    let next = c.args.next.now in
-    let mask = c.busy_mask-mask.result in
-    let is = c.busy_mask-mask.ensures.1 in
+    let h = c.args.held.now in
+    let next = c.nexts-next.result.now in
+    let same = c.nexts-next.ensures in
+    let v = c.args.v in
+    let at = c.args.at in
+    let b = busy v next in
+    let a = subst (λ n. Ahead n v at) (sym same) c.requires.ahead in
     let s = c.slot_from.result in
-    let up = rises ws next c.args.round c.args.v c.args.at h mask is in
-    let less : count (counted ws mask) c.args.v + c.args.left < count (counted ws mask) (get_or next c.args.at 0)
-    = fewer c.rank_of-before.result c.rank_of.result c.args.left _ _ (omega (arith, up, c.rank_of-before.ensures.is, c.rank_of.ensures.is)) c.rank_of-before.ensures.is c.rank_of.ensures.is c.if-through-left.false in
+    let mine = c.slot_from.ensures.counts b (λ j r p. search rules) in
+    let rank = c.slot_from.ensures.rank b (λ j r p. search rules) in
+    let less : count (counted (weights_of h) b) v + c.args.left < count (counted (weights_of h) b) (get_or next at 0)
+    = omega (arith, rises h next same v at a, c.rank-before.ensures.is b (λ j r p. search rules), c.rank.ensures.is b (λ j r p. search rules), c.if-through-left.false) in
     record {
-      goes = stop_goes ws next c.args.round c.args.v c.args.at h mask is c.args.left s c.requires.ticks less c.slot_from.ensures.counts c.slot_from.ensures.rank;
+      goes = subst (λ n. s + 1 ≡ ticks_cursor (weights_of h) n c.args.left v) same (stop_goes h next same v at a c.args.left s c.requires.ticks less mine rank);
       less = c.requires.ticks;
-      within = omega (arith, stop_below ws next c.args.round c.args.v c.args.at h mask is c.args.left s c.requires.ticks less c.slot_from.ensures.counts c.slot_from.ensures.rank);
-      ahead = omega (arith, stop_from ws next c.args.round c.args.v c.args.at h mask is c.args.left s c.requires.ticks less c.slot_from.ensures.counts c.slot_from.ensures.rank);
+      within = omega (arith, stop_below h next same v at a c.args.left s c.requires.ticks less mine rank, ap (λ n. get_or n at 0) same);
+      ahead = omega (arith, stop_from h next same v at a c.args.left s c.requires.ticks less mine rank);
       dry = λ z. absurd (omega arith);
     }

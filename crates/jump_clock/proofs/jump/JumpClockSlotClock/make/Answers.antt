@@ -1,11 +1,10 @@
 use Rattle.slot_clock.specs.Held.{next_of}
 use Rattle.jump_clock.specs.Dries.{items}
-use Rattle.jump_clock.proofs.Busies.{ordered_none, holds_none}
+use Rattle.jump_clock.proofs.Busies.{holds_none}
 use Rattle.jump_clock.proofs.jump.JumpClockSlotClock.make.Goals as goal
 
 pub invariant_of-result : goal.invariant_of-result
 invariant_of-result c =
     let h = c.in_ok-held.held in
     let f = c.in_ok-held.ensures.fresh in
-    let xs = items c.empty.result in
-    record { ordered = ordered_none xs c.empty.ensures; holds = holds_none xs h.cursor (next_of h) h.sessions c.empty.ensures f.0 f.1 }
+    record { holds = holds_none (items c.empty.result) h.cursor (next_of h) _ c.empty.ensures f.0 f.1 }

@@ -1,33 +1,40 @@
-use Rattle.std.proofs.Common.{◌+◌, refl, ◌∙◌, arith, length-set}
-use Rattle.slot_clock.specs.Held.{held_state}
-use Rattle.slot_clock.specs.Holding.{held_stamp, held_added, held_answer, held_after, take_set}
+use Rattle.std.proofs.Common.{◌≡◌, ◌+◌, length, refl, sym, ap, ◌∙◌, subst, arith, length-set}
+use Rattle.std.specs.Prelude.{slice_set}
+use Rattle.std.specs.List.{refill}
+use Rattle.arrayvec.proofs.ArrayVecLemmas.{items-with_items}
+use Rattle.tick_machine.specs.Owed.{shown_round}
+use Rattle.slot_clock.specs.State.{state_of}
+use Rattle.slot_clock.specs.Sound.{Sound}
+use Rattle.slot_clock.specs.Held.{weights_of, held_state}
+use Rattle.slot_clock.specs.Holding.{held_stamp, held_added, held_answer, held_after}
 use Rattle.slot_clock.proofs.held.Held.grant.Goals as goal
 
-pub overflow_add-self : goal.overflow_add-self
-overflow_add-self c = omega (arith, held_stamp c.args.self.now c.args.session c.args.size c.args.from c.requires.room c.args.stamp c.requires.stamp)
+pub overflow_add-stamp : goal.overflow_add-stamp
+overflow_add-stamp c = omega (arith, held_stamp c.args.self.now c.args.session c.args.size c.args.from c.requires.room c.args.stamp c.requires.stamp)
 
 pub invariant_of-self : goal.invariant_of-self
 invariant_of-self c =
     let h = c.args.self.now in
-    let s = held_added h c.args.session c.args.size c.args.from c.requires.room c.args.stamp c.requires.stamp in
-    record {
-      places = (h.places.0, length-set h.next c.args.session (c.args.stamp + 1) ∙ h.places.1);
-      fits = h.fits;
-      whole = h.whole;
-      some = h.some;
-      small = h.small;
-      each = h.each;
-      tops = s.tops;
-      paced = h.paced;
-      few = h.few;
-      sum = s.sum;
-      inside = s.inside;
-    }
+    let i = c.args.session in
+    let x = c.args.stamp + 1 in
+    let seen = c.deref_mut.ensures.value in
+    let e : refill (length h.next.items) h.next.items (slice_set c.deref_mut.result.now i x) ≡ slice_set h.next.items i x
+    = items-with_items h.next (slice_set c.deref_mut.result.now i x) (length-set c.deref_mut.result.now i x ∙ ap length seen) ∙ ap (λ xs. slice_set xs i x) seen in
+    let s = subst (λ xs. Sound (weights_of h) xs h.layout.slots h.cursor h.ticks (h.owed + c.args.size)) (sym e)
+    (held_added h i c.args.size c.args.from c.requires.room c.args.stamp c.requires.stamp) in
+    record { same = s.same; tops = s.tops; paced = s.paced; few = s.few; sum = s.sum; inside = s.inside }
 
 pub returns : goal.returns
 unfolding held_state
-returns c = record {
-  answer = held_answer c.args.self.now c.args.session c.args.size c.args.from c.requires.room c.args.stamp c.requires.stamp;
-  after = held_after c.args.self.now c.args.session c.args.size c.args.from c.requires.room c.args.stamp c.requires.stamp;
-  next = (refl, take_set c.args.self.now.sessions c.args.self.now.next c.args.session (c.args.stamp + 1));
-}
+returns c =
+    let h = c.args.self.now in
+    let i = c.args.session in
+    let x = c.args.stamp + 1 in
+    let seen = c.deref_mut.ensures.value in
+    let e : refill (length h.next.items) h.next.items (slice_set c.deref_mut.result.now i x) ≡ slice_set h.next.items i x
+    = items-with_items h.next (slice_set c.deref_mut.result.now i x) (length-set c.deref_mut.result.now i x ∙ ap length seen) ∙ ap (λ xs. slice_set xs i x) seen in
+    record {
+      answer = held_answer h i c.args.size c.args.from c.requires.room c.args.stamp c.requires.stamp;
+      after = ap (λ xs. state_of (weights_of h) h.ticks (shown_round (weights_of h) h.cursor xs)) e ∙ held_after h i c.args.size c.args.from c.requires.room c.args.stamp c.requires.stamp;
+      next = (refl, e);
+    }

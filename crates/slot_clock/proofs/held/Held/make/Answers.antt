@@ -1,36 +1,40 @@
-use Rattle.std.proofs.Common.{◌<◌, ◌≤◌, length, take, replicate, refl, arith, rules}
+use Rattle.std.proofs.Common.{◌≡◌, ℕ, ◌≤◌, length, take, replicate, refl, sym, ap, ◌∙◌, arith}
+use lib.ListN.{length-replicate}
 use Rattle.std.proofs.lemmas.List.{take-replicate}
+use Rattle.slot_clock.specs.Calls.{made_answer}
 use Rattle.slot_clock.specs.Held.{held_state}
-use Rattle.slot_clock.proofs.Making.{starts, made}
+use Rattle.slot_clock.proofs.Making.{starts_tops, starts_sum, made}
 use Rattle.slot_clock.proofs.held.Held.make.Goals as goal
 
 pub invariant_of-result : goal.invariant_of-result
 invariant_of-result c =
-    let ws = c.args.weights.now in
-    let l : 0 < length ws = search rules in
-    let u : length ws ≤ 64 = search rules in
-    let s = starts ws (take (length ws) c.placed-weights.result) (take (length ws) (replicate 64 0)) c.in-Some.round c.placed-weights.ensures.1 (take-replicate (length ws) 64 0 u) l c.in-Some.ensures in
+    let l = c.in_ok-layout.layout in
+    let ws = l.weights.items in
+    let next = c.truncate.new.self.items in
+    let given : ws ≡ c.args.weights.now = c.in_ok-layout.ensures in
+    let few : length c.args.weights.now ≤ 64 = omega (arith, l.few, ap length given) in
+    let none : next ≡ replicate (length ws) 0
+    = c.truncate.ensures.items ∙ ap (take (length c.args.weights.now)) c.from-next.ensures.0 ∙ take-replicate (length c.args.weights.now) 64 0 few ∙ ap (λ n. replicate n 0) (sym (ap length given)) in
     record {
-      places = (c.placed-weights.ensures.0, refl);
-      fits = u;
-      whole = s.whole;
-      some = s.some;
-      small = s.small;
-      each = s.each;
-      tops = s.tops;
+      same = ap length none ∙ length-replicate (length ws) (let z : ℕ = 0 in z);
+      tops = starts_tops ws next none;
       paced = omega arith;
       few = omega arith;
-      sum = s.sum;
+      sum = starts_sum ws next none;
       inside = omega arith;
     }
 
 pub returns : goal.returns
 unfolding held_state
 returns c =
-    let ws = c.args.weights.now in
-    let l : 0 < length ws = search rules in
-    let u : length ws ≤ 64 = search rules in
+    let l = c.in_ok-layout.layout in
+    let ws = l.weights.items in
+    let next = c.truncate.new.self.items in
+    let given : ws ≡ c.args.weights.now = c.in_ok-layout.ensures in
+    let few : length c.args.weights.now ≤ 64 = omega (arith, l.few, ap length given) in
+    let zeros : next ≡ replicate (length c.args.weights.now) 0
+    = c.truncate.ensures.items ∙ ap (take (length c.args.weights.now)) c.from-next.ensures.0 ∙ take-replicate (length c.args.weights.now) 64 0 few in
     record {
-      made = made ws (take (length ws) c.placed-weights.result) (take (length ws) (replicate 64 0)) l u c.in-Some.round c.in-Some.ensures c.placed-weights.ensures.1 (take-replicate (length ws) 64 0 u);
-      fresh = (refl, take-replicate (length ws) 64 0 u);
+      made = made ws next (zeros ∙ ap (λ n. replicate n 0) (sym (ap length given))) l.slots l.few l.whole l.some l.small l.each ∙ ap made_answer given;
+      fresh = (refl, zeros);
     }

@@ -44,6 +44,7 @@ pub struct HeapLine {
 
 impl HeapLine {
     // Whether a pair has the stamp.
+    #[tactic(auto, using(crate::proofs::Sharing::sharing_none))]
     fn has(&self, stamp: u64) -> bool
         ensures { result ≡ holds stamp self.now.heap.items }
     {

@@ -1,19 +1,16 @@
 // A slip of one link at another: refused there, handed back, and filed at its own.
-use jump_clock::jump::JumpClock;
+use crate::follow::Tried;
 use link::draft::Draft;
 use link::error::MakeError;
 use link::link::Link;
 use slot_clock::clock::SlotClock;
-use slot_clock::step::StepClock;
 use std::alloc::Global;
 use std::marker::Model;
 use std::process::Abort;
 use std::test::Fail;
 use tick_machine::call::{Making, Totals};
 use tick_machine::refusal::Refusal;
-use waiting_line::heap_line::HeapLine;
 use waiting_line::line::WaitingLine;
-use waiting_line::sorted_line::SortedLine;
 
 #[derive(Drop)]
 struct Open<W: WaitingLine, S: SlotClock> {
@@ -70,23 +67,55 @@ impl<W: WaitingLine, S: SlotClock> Open<W, S> {
     }
 }
 
-fn crossed<W: WaitingLine + Drop, S: SlotClock + Drop>(
-    heap: Global,
-    own: u64,
-    other: u64,
-) -> Option<(Refusal, u64, Totals, Totals)> {
-    let mut one: Open<W, S> = Open::opened(heap, own).ok()?;
-    let mut two: Open<W, S> = Open::opened(heap, other).ok()?;
-    one.send_one();
-    let (why, number) = one.offer(&mut two)?;
-    Some((why, number, one.link.totals(), two.link.totals()))
+// Why a slip was refused at another link, the number under which it was then filed at its own, and what each link counts after it.
+#[derive(Clone, Copy, PartialEq, Eq, Debug)]
+struct Crossed {
+    why: Refusal,
+    number: u64,
+    own: Totals,
+    other: Totals,
 }
 
-fn refused_elsewhere<W: WaitingLine + Drop, S: SlotClock + Drop>(
-    rt: &impl Abort,
-    pair: &str,
-    heap: Global,
-) -> Result<(), Fail> {
+// The slip of the first link is offered to the second.
+#[derive(Clone, Copy)]
+struct Crossing {
+    own: u64,
+    other: u64,
+    expected: Crossed,
+}
+
+impl Crossing {
+    fn happens<W: WaitingLine + Drop, S: SlotClock + Drop>(&self, heap: Global) -> Option<Crossed> {
+        let mut own: Open<W, S> = Open::opened(heap, self.own).ok()?;
+        let mut other: Open<W, S> = Open::opened(heap, self.other).ok()?;
+        own.send_one();
+        let (why, number) = own.offer(&mut other)?;
+        Some(Crossed {
+            why,
+            number,
+            own: own.link.totals(),
+            other: other.link.totals(),
+        })
+    }
+}
+
+impl Tried for Crossing {
+    fn over<W: WaitingLine + Drop, S: SlotClock + Drop>(
+        &self,
+        rt: &(impl Abort + AllocGlobal),
+        pair: &str,
+    ) -> Result<(), Fail> {
+        assert_eq!(rt;
+            self.happens::<W, S>(rt.alloc()),
+            Some(self.expected),
+            "{pair}"
+        );
+        Ok(())
+    }
+}
+
+#[test]
+fn slips_of_another_link(rt: HostRuntime) -> Result<(), Fail> {
     let none = Totals {
         waiting: 0,
         sending: 0,
@@ -96,24 +125,26 @@ fn refused_elsewhere<W: WaitingLine + Drop, S: SlotClock + Drop>(
         returned: 0,
     };
     let filed = Totals { filed: 1, ..none };
-    assert_eq!(rt;
-        crossed::<W, S>(heap, 7, 8),
-        Some((Refusal::OtherLink, 0, filed, none)),
-        "{pair}"
-    );
-    assert_eq!(rt;
-        crossed::<W, S>(heap, 7, 7),
-        Some((Refusal::NotOut, 0, filed, none)),
-        "{pair}"
-    );
-    Ok(())
-}
-
-#[test]
-fn slips_of_another_link(rt: HostRuntime) -> Result<(), Fail> {
-    let heap = rt.alloc();
-    refused_elsewhere::<HeapLine, StepClock>(&rt, "heap, step", heap)?;
-    refused_elsewhere::<HeapLine, JumpClock>(&rt, "heap, jump", heap)?;
-    refused_elsewhere::<SortedLine, StepClock>(&rt, "sorted, step", heap)?;
-    refused_elsewhere::<SortedLine, JumpClock>(&rt, "sorted, jump", heap)
+    let expected = Crossed {
+        why: Refusal::OtherLink,
+        number: 0,
+        own: filed,
+        other: none,
+    };
+    Crossing {
+        own: 7,
+        other: 8,
+        expected,
+    }
+    .on_all_four(&rt)?;
+    let expected = Crossed {
+        why: Refusal::NotOut,
+        ..expected
+    };
+    Crossing {
+        own: 7,
+        other: 7,
+        expected,
+    }
+    .on_all_four(&rt)
 }

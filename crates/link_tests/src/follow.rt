@@ -1,18 +1,19 @@
 // Plays a table over all four pairs of parts, and compares the answers.
 use jump_clock::jump::JumpClock;
 use link_play::play::answers_of;
-use link_play::step::{Making, Step};
+use link_play::step::Step;
 use slot_clock::clock::SlotClock;
 use slot_clock::step::StepClock;
-use std::alloc::Global;
 use std::process::Abort;
 use std::test::Fail;
-use tick_machine::call::{Answer, Figures, Totals};
+use tick_machine::call::{Answer, Figures, Making, Totals};
 use tick_machine::packet::SlipCopy;
 use waiting_line::heap_line::HeapLine;
 use waiting_line::line::WaitingLine;
 use waiting_line::sorted_line::SortedLine;
 
+// The tables write slips, figures and totals as rows of numbers, in the order of the fields: with the names of the fields a table of thirty
+// rows would be some two hundred lines.
 pub fn slip(
     link: u64,
     packet: u64,
@@ -61,81 +62,68 @@ pub fn totals(
     })
 }
 
-// The last answers are those of the rows.
-fn told(rt: &impl Abort, pair: &str, answers: &[Answer], rows: &[(Step, Answer)]) {
-    assert!(rt; answers.len() >= rows.len(), "{pair}");
-    let before = answers.len() - rows.len();
-    for (at, row) in rows.iter().enumerate() {
+// What is tried over each pair of a waiting line and a slot clock.
+pub trait Tried {
+    fn over<W: WaitingLine + Drop, S: SlotClock + Drop>(
+        &self,
+        rt: &(impl Abort + AllocGlobal),
+        pair: &str,
+    ) -> Result<(), Fail>;
+
+    fn on_all_four(&self, rt: &(impl Abort + AllocGlobal)) -> Result<(), Fail> {
+        self.over::<HeapLine, StepClock>(rt, "heap, step")?;
+        self.over::<HeapLine, JumpClock>(rt, "heap, jump")?;
+        self.over::<SortedLine, StepClock>(rt, "sorted, step")?;
+        self.over::<SortedLine, JumpClock>(rt, "sorted, jump")
+    }
+}
+
+// A making and its addings, and what they and the opening are answered.
+#[derive(Clone, Copy)]
+pub struct Drafted<'a> {
+    pub making: Making,
+    pub weights: &'a [u64],
+    pub expected: &'a [Answer],
+}
+
+impl Tried for Drafted<'_> {
+    fn over<W: WaitingLine + Drop, S: SlotClock + Drop>(
+        &self,
+        rt: &(impl Abort + AllocGlobal),
+        pair: &str,
+    ) -> Result<(), Fail> {
+        let answers = answers_of::<W, S>(rt.alloc(), self.making, self.weights, &[])?;
+        assert_eq!(rt; answers.as_slice(), self.expected, "{pair}");
+        Ok(())
+    }
+}
+
+// A making and its addings, and rows of a step after the opening and its answer.
+#[derive(Clone, Copy)]
+pub struct Rows<'a> {
+    pub making: Making,
+    pub weights: &'a [u64],
+    pub rows: &'a [(Step, Answer)],
+}
+
+impl Tried for Rows<'_> {
+    fn over<W: WaitingLine + Drop, S: SlotClock + Drop>(
+        &self,
+        rt: &(impl Abort + AllocGlobal),
+        pair: &str,
+    ) -> Result<(), Fail> {
+        let heap = rt.alloc();
+        let steps: Vec<Step> = self.rows.iter().map(|row| row.0).collect(heap)?;
+        let expected: Vec<Answer> = self.rows.iter().map(|row| row.1).collect(heap)?;
+        let answers = answers_of::<W, S>(heap, self.making, self.weights, steps.as_slice())?;
+        let opening = self.weights.len().saturating_add(2);
         assert_eq!(rt;
-            answers.get(before.saturating_add(at)).copied(),
-            Some(row.1),
-            "{pair}, at {at}"
+            answers.len(),
+            opening.saturating_add(expected.len()),
+            "{pair}"
         );
+        let (_, played) = answers.as_slice().split_at(opening);
+        assert_eq!(rt; played, expected.as_slice(), "{pair}");
+        Ok(())
     }
-}
-
-fn follow<W: WaitingLine + Drop, S: SlotClock + Drop>(
-    rt: &impl Abort,
-    pair: &str,
-    heap: Global,
-    making: Making,
-    weights: &[u64],
-    rows: &[(Step, Answer)],
-) -> Result<(), Fail> {
-    let mut steps = Vec::new(heap);
-    for row in rows {
-        steps.push(row.0)?;
-    }
-    let answers = answers_of::<W, S>(heap, making, weights, steps.as_slice())?;
-    assert_eq!(rt;
-        answers.len(),
-        weights.len().saturating_add(rows.len()).saturating_add(2),
-        "{pair}"
-    );
-    told(rt, pair, answers.as_slice(), rows);
-    Ok(())
-}
-
-// Each row, after the making, the addings and the opening.
-pub fn on_all_four(
-    rt: &impl Abort,
-    heap: Global,
-    making: Making,
-    weights: &[u64],
-    rows: &[(Step, Answer)],
-) -> Result<(), Fail> {
-    follow::<HeapLine, StepClock>(rt, "heap, step", heap, making, weights, rows)?;
-    follow::<HeapLine, JumpClock>(rt, "heap, jump", heap, making, weights, rows)?;
-    follow::<SortedLine, StepClock>(rt, "sorted, step", heap, making, weights, rows)?;
-    follow::<SortedLine, JumpClock>(rt, "sorted, jump", heap, making, weights, rows)
-}
-
-fn drafted<W: WaitingLine + Drop, S: SlotClock + Drop>(
-    rt: &impl Abort,
-    pair: &str,
-    heap: Global,
-    making: Making,
-    weights: &[u64],
-    expected: &[Answer],
-) -> Result<(), Fail> {
-    let answers = answers_of::<W, S>(heap, making, weights, &[])?;
-    assert_eq!(rt; answers.len(), expected.len(), "{pair}");
-    for (at, answer) in expected.iter().enumerate() {
-        assert_eq!(rt; answers.get(at).copied(), Some(*answer), "{pair}, at {at}");
-    }
-    Ok(())
-}
-
-// The answers of the making, the addings and the opening.
-pub fn drafted_on_all_four(
-    rt: &impl Abort,
-    heap: Global,
-    making: Making,
-    weights: &[u64],
-    expected: &[Answer],
-) -> Result<(), Fail> {
-    drafted::<HeapLine, StepClock>(rt, "heap, step", heap, making, weights, expected)?;
-    drafted::<HeapLine, JumpClock>(rt, "heap, jump", heap, making, weights, expected)?;
-    drafted::<SortedLine, StepClock>(rt, "sorted, step", heap, making, weights, expected)?;
-    drafted::<SortedLine, JumpClock>(rt, "sorted, jump", heap, making, weights, expected)
 }

@@ -1,8 +1,8 @@
 // Histories and what each step is answered. A slip is taken and spent in one step.
-use crate::follow::{figures, on_all_four, slip, totals};
-use link_play::step::{Making, Step};
+use crate::follow::{Rows, Tried, figures, slip, totals};
+use link_play::step::Step;
 use std::test::Fail;
-use tick_machine::call::Answer;
+use tick_machine::call::{Answer, Making};
 use tick_machine::refusal::{LineRefusal, Refusal};
 
 // Weights 2 and 1: the lesser stamp goes first, a lead may be negative, a session that was away starts at V.
@@ -40,7 +40,12 @@ fn first_link(rt: HostRuntime) -> Result<(), Fail> {
         (Step::TakeAndFile, slip(7, 3, 0, 1, 103, 20, 21)),
         (Step::AskTotals, totals(0, 0, 0, 0, 3, 1)),
     ];
-    on_all_four(&rt, rt.alloc(), making, &[1], &rows)
+    Rows {
+        making,
+        weights: &[1],
+        rows: &rows,
+    }
+    .on_all_four(&rt)
 }
 
 // Weights 1 and 1 with room for one packet: a packet leaves at its latest tick.
@@ -75,7 +80,12 @@ fn second_link(rt: HostRuntime) -> Result<(), Fail> {
         (Step::TakeAndFile, Answer::Collected(None)),
         (Step::AskTotals, totals(0, 0, 0, 0, 1, 1)),
     ];
-    on_all_four(&rt, rt.alloc(), making, &[1], &rows)
+    Rows {
+        making,
+        weights: &[1],
+        rows: &rows,
+    }
+    .on_all_four(&rt)
 }
 
 // A session that comes late gets slots from V on, and not from its own next.
@@ -100,7 +110,12 @@ fn second_link_later(rt: HostRuntime) -> Result<(), Fail> {
         (Step::TakeAndFile, slip(8, 1, 1, 3, 2, 10, 13)),
         (Step::AskTotals, totals(0, 0, 0, 0, 1, 1)),
     ];
-    on_all_four(&rt, rt.alloc(), making, &[1], &rows)
+    Rows {
+        making,
+        weights: &[1],
+        rows: &rows,
+    }
+    .on_all_four(&rt)
 }
 
 // Each refusal of an open link in the order of the tests; none changes anything.
@@ -171,7 +186,12 @@ fn refused_calls(rt: HostRuntime) -> Result<(), Fail> {
         (Step::TakeAndFile, Answer::Collected(None)),
         (Step::AskTotals, totals(0, 0, 0, 0, 2, 1)),
     ];
-    on_all_four(&rt, rt.alloc(), making, &[1], &rows)
+    Rows {
+        making,
+        weights: &[1],
+        rows: &rows,
+    }
+    .on_all_four(&rt)
 }
 
 // No packet at all.
@@ -200,7 +220,12 @@ fn empty_link(rt: HostRuntime) -> Result<(), Fail> {
         (Step::AskFigures(0), figures(0, 0, 0, 0, 0)),
         (Step::AskTotals, totals(0, 0, 0, 0, 0, 0)),
     ];
-    on_all_four(&rt, rt.alloc(), making, &[], &rows)
+    Rows {
+        making,
+        weights: &[],
+        rows: &rows,
+    }
+    .on_all_four(&rt)
 }
 
 // A move to the last tick is one call like any other; past it no clock goes.
@@ -259,7 +284,12 @@ fn last_tick(rt: HostRuntime) -> Result<(), Fail> {
         (Step::AskFigures(0), figures(65_537, 65_535, 65_535, 0, 2)),
         (Step::AskTotals, totals(2, 0, 0, 0, 2, 0)),
     ];
-    on_all_four(&rt, rt.alloc(), making, &[1], &rows)
+    Rows {
+        making,
+        weights: &[1],
+        rows: &rows,
+    }
+    .on_all_four(&rt)
 }
 
 // Packets are collected in the order in which they left, whatever the order of their coming.
@@ -298,7 +328,12 @@ fn order_of_leaving(rt: HostRuntime) -> Result<(), Fail> {
         (Step::AskFigures(2), figures(30, 30, 30, 0, 0)),
         (Step::AskTotals, totals(0, 0, 0, 0, 6, 1)),
     ];
-    on_all_four(&rt, rt.alloc(), making, &[2, 5], &rows)
+    Rows {
+        making,
+        weights: &[2, 5],
+        rows: &rows,
+    }
+    .on_all_four(&rt)
 }
 
 // Bytes of the packet on the line count as sent; it waits no more, and is not yet left.
@@ -333,5 +368,10 @@ fn on_the_line(rt: HostRuntime) -> Result<(), Fail> {
         (Step::AskFigures(1), figures(40, 40, 40, 0, 0)),
         (Step::AskTotals, totals(0, 0, 0, 0, 2, 0)),
     ];
-    on_all_four(&rt, rt.alloc(), making, &[2], &rows)
+    Rows {
+        making,
+        weights: &[2],
+        rows: &rows,
+    }
+    .on_all_four(&rt)
 }

@@ -1,49 +1,37 @@
 // The limits of making, of adding and of unsettled packets.
-use crate::follow::{drafted_on_all_four, on_all_four, totals};
-use link_play::step::{Making, Step};
-use std::alloc::Global;
-use std::process::Abort;
+use crate::follow::{Drafted, Rows, Tried, slip, totals};
+use link_play::step::Step;
 use std::test::Fail;
-use tick_machine::call::Answer;
+use tick_machine::call::{Answer, Making};
 use tick_machine::refusal::{LineRefusal, Refusal};
-
-fn refused_making(
-    rt: &impl Abort,
-    heap: Global,
-    number: u64,
-    largest: u64,
-    capacity: u64,
-    weight: u64,
-    why: Refusal,
-) -> Result<(), Fail> {
-    let making = Making {
-        number,
-        largest,
-        capacity,
-        weight,
-    };
-    drafted_on_all_four(rt, heap, making, &[1, 1], &[Answer::Refused(why)])
-}
 
 // Each refusal of a making, in the order of the tests, at 0 and one past each limit.
 #[test]
 fn makings_refused(rt: HostRuntime) -> Result<(), Fail> {
-    let heap = rt.alloc();
-    refused_making(&rt, heap, 65_536, 0, 0, 0, Refusal::LinkNumber)?;
-    refused_making(&rt, heap, 65_535, 0, 0, 0, Refusal::Largest)?;
-    refused_making(&rt, heap, 65_535, 65_536, 0, 0, Refusal::Largest)?;
-    refused_making(&rt, heap, 65_535, 65_535, 0, 0, Refusal::Capacity)?;
-    refused_making(&rt, heap, 65_535, 65_535, 1_025, 0, Refusal::Capacity)?;
-    refused_making(&rt, heap, 65_535, 65_535, 1_024, 0, Refusal::FirstWeight)?;
-    refused_making(
-        &rt,
-        heap,
-        65_535,
-        65_535,
-        1_024,
-        4_097,
-        Refusal::FirstWeight,
-    )
+    let refused = [
+        ((65_536, 0, 0, 0), Refusal::LinkNumber),
+        ((65_535, 0, 0, 0), Refusal::Largest),
+        ((65_535, 65_536, 0, 0), Refusal::Largest),
+        ((65_535, 65_535, 0, 0), Refusal::Capacity),
+        ((65_535, 65_535, 1_025, 0), Refusal::Capacity),
+        ((65_535, 65_535, 1_024, 0), Refusal::FirstWeight),
+        ((65_535, 65_535, 1_024, 4_097), Refusal::FirstWeight),
+    ];
+    for ((number, largest, capacity, weight), why) in refused {
+        let making = Making {
+            number,
+            largest,
+            capacity,
+            weight,
+        };
+        Drafted {
+            making,
+            weights: &[1, 1],
+            expected: &[Answer::Refused(why)],
+        }
+        .on_all_four(&rt)?;
+    }
+    Ok(())
 }
 
 // Refused addings leave the draft as it is.
@@ -68,7 +56,12 @@ fn addings_refused(rt: HostRuntime) -> Result<(), Fail> {
         Answer::Refused(Refusal::TooMuchWeight),
         Answer::Opened(4_096),
     ];
-    drafted_on_all_four(&rt, rt.alloc(), making, &weights, &expected)
+    Drafted {
+        making,
+        weights: &weights,
+        expected: &expected,
+    }
+    .on_all_four(&rt)
 }
 
 // The 65th session is refused, before its weight is added up.
@@ -83,12 +76,15 @@ fn sixty_four_sessions(rt: HostRuntime) -> Result<(), Fail> {
     };
     let mut expected = Vec::new(heap);
     expected.push(Answer::Made(1))?;
-    for session in 1u64..64 {
-        expected.push(Answer::Added(session))?;
-    }
+    expected.extend((1u64..64).map(Answer::Added))?;
     expected.push(Answer::Refused(Refusal::TooManySessions))?;
     expected.push(Answer::Opened(4_096))?;
-    drafted_on_all_four(&rt, heap, making, &[64; 64], expected.as_slice())
+    Drafted {
+        making,
+        weights: &[64; 64],
+        expected: expected.as_slice(),
+    }
+    .on_all_four(&rt)
 }
 
 // 1,024 packets are unsettled: first the waiting line is full, then, with one of them left, there is room in it, but not for one more packet.
@@ -108,26 +104,30 @@ fn unsettled_packets(rt: HostRuntime) -> Result<(), Fail> {
             Answer::Accepted(number, number, number + 3),
         ))?;
     }
-    rows.push((
-        Step::Arrive(0, 1, 0),
-        Answer::Refused(Refusal::NoRoom(LineRefusal::Full)),
-    ))?;
-    rows.push((Step::MoveTo(1), Answer::Moved(1, 1)))?;
-    rows.push((
-        Step::Arrive(0, 1, 0),
-        Answer::Refused(Refusal::TooManyUnsettled),
-    ))?;
-    rows.push((Step::AskTotals, totals(1_023, 0, 1, 0, 0, 0)))?;
-    rows.push((
-        Step::TakeAndReturn,
-        crate::follow::slip(9, 0, 0, 1, 0, 0, 1),
-    ))?;
-    rows.push((Step::Arrive(0, 1, 5), Answer::Accepted(1_024, 1_024, 1_027)))?;
-    rows.push((Step::MoveTo(2_000), Answer::Moved(2_000, 1_024)))?;
-    rows.push((
-        Step::Arrive(0, 1, 5),
-        Answer::Refused(Refusal::TooManyUnsettled),
-    ))?;
-    rows.push((Step::AskTotals, totals(0, 0, 1_024, 0, 0, 1)))?;
-    on_all_four(&rt, heap, making, &[], rows.as_slice())
+    rows.extend([
+        (
+            Step::Arrive(0, 1, 0),
+            Answer::Refused(Refusal::NoRoom(LineRefusal::Full)),
+        ),
+        (Step::MoveTo(1), Answer::Moved(1, 1)),
+        (
+            Step::Arrive(0, 1, 0),
+            Answer::Refused(Refusal::TooManyUnsettled),
+        ),
+        (Step::AskTotals, totals(1_023, 0, 1, 0, 0, 0)),
+        (Step::TakeAndReturn, slip(9, 0, 0, 1, 0, 0, 1)),
+        (Step::Arrive(0, 1, 5), Answer::Accepted(1_024, 1_024, 1_027)),
+        (Step::MoveTo(2_000), Answer::Moved(2_000, 1_024)),
+        (
+            Step::Arrive(0, 1, 5),
+            Answer::Refused(Refusal::TooManyUnsettled),
+        ),
+        (Step::AskTotals, totals(0, 0, 1_024, 0, 0, 1)),
+    ])?;
+    Rows {
+        making,
+        weights: &[],
+        rows: rows.as_slice(),
+    }
+    .on_all_four(&rt)
 }

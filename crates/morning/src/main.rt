@@ -7,13 +7,13 @@ mod table;
 mod words;
 
 use crate::table::{MORNING, OPENING, OTHER_WEIGHTS};
-use crate::words::{asked, said};
+use crate::words::Words;
 use jump_clock::jump::JumpClock;
 use link_play::play::answers_of;
-use link_play::step::Step;
 use slot_clock::clock::SlotClock;
 use slot_clock::step::StepClock;
 use std::alloc::{AllocError, Global};
+use std::io;
 use tick_machine::call::Answer;
 use waiting_line::heap_line::HeapLine;
 use waiting_line::line::WaitingLine;
@@ -26,67 +26,45 @@ fn played<W: WaitingLine + Drop, S: SlotClock + Drop>(
 }
 
 // The opening's answers, and then each step with its own.
-fn show(rt: &HostRuntime, answers: &[Answer]) -> anyhow::Result<()> {
-    let heap = rt.alloc();
+fn show(rt: &HostRuntime, answers: &[Answer]) -> io::Result<()> {
     let before = answers.len().saturating_sub(MORNING.len());
-    for answer in answers.iter().take(before) {
-        println!(rt; "{}", said(heap, *answer)?)?;
+    let (opening, morning) = answers.split_at(before);
+    for answer in opening {
+        println!(rt; "{}", Words(*answer))?;
     }
-    for (step, answer) in MORNING.iter().zip(answers.iter().skip(before)) {
-        println!(rt; "{}: {}", asked(heap, *step)?, said(heap, *answer)?)?;
+    for (step, answer) in MORNING.iter().zip(morning) {
+        println!(rt; "{}: {}", Words(*step), Words(*answer))?;
     }
     Ok(())
 }
 
-fn compare(
+// Whether a pair of parts answers as the first did.
+fn compare<W: WaitingLine + Drop, S: SlotClock + Drop>(
     rt: &HostRuntime,
     name: &str,
-    first: &Vec<Answer>,
-    other: &Vec<Answer>,
+    first: &[Answer],
 ) -> anyhow::Result<bool> {
-    let same = first == other;
+    let answers = played::<W, S>(rt.alloc())?;
+    let same = answers.as_slice() == first;
     println!(rt;
-        "{name}: {}",
-        if same {
-            "the same answers"
-        } else {
-            "other answers"
-        }
+        "{name}: {} answers",
+        if same { "the same" } else { "other" }
     )?;
     Ok(same)
 }
 
 fn run(rt: &HostRuntime) -> anyhow::Result<()> {
-    let heap = rt.alloc();
-    let first = played::<HeapLine, StepClock>(heap)?;
+    let answers = played::<HeapLine, StepClock>(rt.alloc())?;
+    let first = answers.as_slice();
     println!(rt; "heap line and slot by slot clock:")?;
-    show(rt, first.as_slice())?;
-    let second = compare(
-        rt,
-        "heap line and jumping clock",
-        &first,
-        &played::<HeapLine, JumpClock>(heap)?,
-    )?;
-    let third = compare(
-        rt,
-        "sorted line and slot by slot clock",
-        &first,
-        &played::<SortedLine, StepClock>(heap)?,
-    )?;
-    let fourth = compare(
-        rt,
-        "sorted line and jumping clock",
-        &first,
-        &played::<SortedLine, JumpClock>(heap)?,
-    )?;
-    println!(rt;
-        "{}",
-        if second && third && fourth {
-            "the four agree"
-        } else {
-            "the four differ"
-        }
-    )?;
+    show(rt, first)?;
+    let same = [
+        compare::<HeapLine, JumpClock>(rt, "heap line and jumping clock", first)?,
+        compare::<SortedLine, StepClock>(rt, "sorted line and slot by slot clock", first)?,
+        compare::<SortedLine, JumpClock>(rt, "sorted line and jumping clock", first)?,
+    ];
+    let agree = same.iter().all(|same| *same);
+    println!(rt; "the four {}", if agree { "agree" } else { "differ" })?;
     Ok(())
 }
 

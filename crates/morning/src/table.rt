@@ -1,5 +1,6 @@
 // The morning, as a table.
-use link_play::step::{Making, Step};
+use link_play::step::Step;
+use tick_machine::call::Making;
 
 pub const NAMES: [&str; 5] = [
     "importer",

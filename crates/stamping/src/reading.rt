@@ -2,9 +2,9 @@
 use crate::outcome::Refused;
 use slot_clock::refusal::ClockRefusal;
 use std::alloc::{AllocError, Global};
+use std::fmt;
 use std::io::{BufRead, BufReader};
 use std::str::FromStr;
-use std::{fmt, io};
 
 #[derive(Clone, Copy)]
 pub enum Step {
@@ -89,8 +89,9 @@ pub fn weights_of(heap: Global, text: &str) -> Result<Vec<u64>, NoClocks> {
 }
 
 // The lines of standard input.
-pub fn input_lines(rt: &HostRuntime) -> io::Result<Vec<String>> {
+pub fn input_lines(rt: &HostRuntime) -> anyhow::Result<Vec<String>> {
     BufReader::new(rt.alloc(), rt.stdin())?
         .lines(rt.alloc())
+        .map(|text| text.map_err(anyhow::Error::from))
         .try_collect(rt.alloc())
 }

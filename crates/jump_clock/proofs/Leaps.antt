@@ -120,7 +120,7 @@ module _ (h : Held) (next : List ℕ) (same : next ≡ next_of h) (v at : ℕ) (
   jump_near left some few =
       let e : ((left - 1) + 1) ≡ left = omega arith in
       let m = ap (λ x. x * h.layout.slots) e in
-      omega (arith, m, mul-le-mul few h.layout.small, a.busy, next_near)
+      omega (arith, m, mul-le-mul few h.small, a.busy, next_near)
 
 -- a stamp in closed form
 pub stamp_done : (ws : List ℕ) (i m q s : ℕ) → All (λ w. 1 ≤ w) ws → i < length ws → 1 ≤ m

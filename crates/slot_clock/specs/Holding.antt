@@ -22,8 +22,8 @@ module _ (h : Held) where
   sound = record {
     whole = h.layout.whole;
     some = h.layout.some;
-    small = h.layout.small;
-    each = each_heavy (weights_of h) h.layout.each;
+    small = h.small;
+    each = each_heavy (weights_of h) h.each;
     same = h.same;
     tops = h.tops;
     paced = h.paced;

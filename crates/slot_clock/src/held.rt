@@ -1,5 +1,6 @@
 // What every slot clock holds.
-ghost use Rattle.std.specs.Prelude.{◌≡◌, ◌-◌, ◌*◌, ◌<◌, ◌≤◌, length};
+ghost use Rattle.std.specs.Prelude.{◌≡◌, ◌-◌, ◌*◌, ◌<◌, ◌≤◌, true, length};
+ghost use Rattle.slot_clock.specs.Calls.{no_zero};
 ghost use Rattle.tick_machine.specs.Owed.{owed_slots};
 ghost use Rattle.slot_clock.specs.Walk.{Tops};
 
@@ -8,7 +9,7 @@ use arrayvec::ArrayVec;
 
 #[derive(Drop)]
 pub struct Held {
-    pub layout: Layout,
+    pub layout: Layout<64>,
     // for each session one more than the highest slot that it ever got; beside the weights, and not in one list with them,
     // since those stay as they are made and all that is said of the layout is said of them alone
     pub next: ArrayVec<u64, 64>,
@@ -16,6 +17,8 @@ pub struct Held {
     pub ticks: u64,
     // the number of bytes owed in all
     pub owed: u64,
+    ghost small: { layout.slots ≤ 4096 },
+    ghost each: { no_zero layout.weights.items ≡ true },
     ghost same: { length next.items ≡ length layout.weights.items },
     ghost tops: { Tops layout.weights.items next.items },
     ghost paced: { cursor ≤ ticks * layout.slots },

@@ -10,16 +10,14 @@ ghost use Rattle.slot_clock.specs.Walk.{below};
 use crate::refusal::ClockRefusal;
 use arrayvec::ArrayVec;
 
-// The sessions' weights, and the number of slots in a round.
+// The weights of at most MOST sessions, and the number of slots in a round.
 #[derive(Drop)]
-pub struct Layout {
-    pub weights: ArrayVec<u64, 64>,
+pub struct Layout<const MOST: usize> {
+    pub weights: ArrayVec<u64, MOST>,
     pub slots: u64,
-    ghost few: { length weights.items ≤ 64 },
+    ghost few: { length weights.items ≤ MOST },
     ghost whole: { slots ≡ round_length weights.items },
     ghost some: { 0 < slots },
-    ghost small: { slots ≤ 4096 },
-    ghost each: { no_zero weights.items ≡ true },
 }
 
 // The number of slots in a round, if no weight is 0 and the sum is at most 4,096.
@@ -36,10 +34,10 @@ fn round_of(weights: &[u64]) -> Option<u64>
     Some(sum)
 }
 
-impl Layout {
+impl Layout<64> {
     // The layout for these weights, or why no clock has them.
-    pub fn make(weights: &[u64]) -> Result<Layout, ClockRefusal>
-        ensures { MatchResult result (λ l. l.weights.items ≡ weights.now) (λ e. made_answer weights.now ≡ Err e) }
+    pub fn make(weights: &[u64]) -> Result<Layout<64>, ClockRefusal>
+        ensures { MatchResult result (λ l. (l.weights.items ≡ weights.now) × (l.slots ≤ 4096) × (no_zero weights.now ≡ true)) (λ e. made_answer weights.now ≡ Err e) }
     {
         if weights.is_empty() {
             return Err(ClockRefusal::Sessions);
@@ -55,7 +53,9 @@ impl Layout {
             slots,
         })
     }
+}
 
+impl<const MOST: usize> Layout<MOST> {
     fn holder(&self, position: u64) -> usize
         requires { position < round_length self.now.weights.items }
         ensures is { result ≡ holder self.now.weights.items position }

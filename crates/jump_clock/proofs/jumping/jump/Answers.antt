@@ -20,15 +20,21 @@ overflow_sub-through c =
       c.rank.ensures.is b (λ j r p. search rules),
     )
 
-pub slot_from-requires-clause-hit : goal.slot_from-requires-clause-hit
-slot_from-requires-clause-hit c =
+pub slot_from-requires : goal.slot_from-requires
+slot_from-requires c =
+    let h = c.args.held.now in
     let next = c.nexts-next.result.now in
-    let a = subst (λ n. Ahead n c.args.v c.args.at) (sym c.nexts-next.ensures) c.requires.ahead in
-    (busy c.args.v next, λ j r p. search rules, busy_hit c.args.held.now next c.nexts-next.ensures c.args.v c.args.at a)
-
-pub slot_from-requires-clause-near : goal.slot_from-requires-clause-near
-slot_from-requires-clause-near c =
-    jump_near c.args.held.now (next_of c.args.held.now) refl c.args.v c.args.at c.requires.ahead c.args.left c.requires.ticks c.requires.few
+    let same = c.nexts-next.ensures in
+    let a = subst (λ n. Ahead n c.args.v c.args.at) (sym same) c.requires.ahead in (
+      search rules,
+      (
+        λ j l. search rules,
+        (
+          (busy c.args.v next, λ j r p. search rules, busy_hit h next same c.args.v c.args.at a),
+          jump_near h (next_of h) refl c.args.v c.args.at c.requires.ahead c.args.left c.requires.ticks c.requires.few,
+        ),
+      ),
+    )
 
 pub returns-then-through-left : goal.returns-then-through-left
 returns-then-through-left c =

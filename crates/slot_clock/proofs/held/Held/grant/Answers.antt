@@ -22,7 +22,7 @@ invariant_of-self c =
     = items-with_items h.next (slice_set c.deref_mut.result.now i x) (length-set c.deref_mut.result.now i x ∙ ap length seen) ∙ ap (λ xs. slice_set xs i x) seen in
     let s = subst (λ xs. Sound (weights_of h) xs h.layout.slots h.cursor h.ticks (h.owed + c.args.size)) (sym e)
     (held_added h i c.args.size c.args.from c.requires.room c.args.stamp c.requires.stamp) in
-    record { same = s.same; tops = s.tops; paced = s.paced; few = s.few; sum = s.sum; inside = s.inside }
+    record { small = c.args.self.now.small; each = c.args.self.now.each; same = s.same; tops = s.tops; paced = s.paced; few = s.few; sum = s.sum; inside = s.inside }
 
 pub returns : goal.returns
 unfolding held_state

@@ -8,7 +8,7 @@ invariant_of-self c =
     let h = c.args.self.now in
     let s = held_passed h c.args.ticks c.args.to c.requires.few c.requires.there in
     let left = c.saturating_sub-self.ensures in
-    record { same = h.same; tops = s.tops; paced = s.paced; few = s.few; sum = left ∙ s.sum; inside = omega (arith, s.inside, left) }
+    record { small = c.args.self.now.small; each = c.args.self.now.each; same = h.same; tops = s.tops; paced = s.paced; few = s.few; sum = left ∙ s.sum; inside = omega (arith, s.inside, left) }
 
 pub returns : goal.returns
 unfolding held_state

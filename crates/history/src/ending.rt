@@ -13,7 +13,7 @@ use waiting_line::line::WaitingLine;
 
 impl<W: WaitingLine + Drop, S: SlotClock + Drop> OpenLink<W, S> {
     // The slip in hand is returned. It is out, so its return is granted.
-    pub fn close(self) -> Option<Reply>
+    pub(crate) fn close(self) -> Option<Reply>
         requires { (s : Stage) × AtLink W.WaitingLine S.SlotClock s self }
         ensures { (s : Stage) → AtLink W.WaitingLine S.SlotClock s self → last_lines result ≡ ending s }
     {

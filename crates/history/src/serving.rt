@@ -58,7 +58,7 @@ impl<W: WaitingLine, S: SlotClock> OpenLink<W, S> {
     }
 
     // A command at an open link.
-    pub fn serve(mut self, n: u64, command: Command) -> (Self, Reply)
+    pub(crate) fn serve(mut self, n: u64, command: Command) -> (Self, Reply)
         ensures { (s : Stage) → AtLink W.WaitingLine S.SlotClock s self → Went (AtLink W.WaitingLine S.SlotClock) (obey n s command) result.0 result.1 }
     {
         match command {

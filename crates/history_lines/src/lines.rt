@@ -56,8 +56,8 @@ pub fn print_history<C: Clerk>(
         return put_reply(heap, out, Reply::TooLong);
     }
     let mut clerk = start;
-    for (passed, line) in Parts::of(input, b'\n').enumerate() {
-        let (next, done) = answer_line(heap, clerk, passed as u64 + 1, line, out);
+    for (line, n) in Parts::of(input, b'\n').zip(1..) {
+        let (next, done) = answer_line(heap, clerk, n, line, out);
         clerk = next;
         if let Err(e) = done {
             let _ = clerk.close();

@@ -1,10 +1,6 @@
 use Rattle.std.proofs.Common.{vec_items, rules}
-use Rattle.replay.proofs.Living.{granted, if_lives, refused_plays}
+use Rattle.replay.proofs.Living.{refused_plays}
 use Rattle.replay.proofs.play.play.Goals as goal
-
-pub returns-in-Ok : goal.returns-in-Ok
-returns-in-Ok g c =
-    if_lives (granted g.W.WaitingLine.pairs g.W.WaitingLine.capacity c.args.making c.in-Ok.draft c.in-Ok.ensures) c.args.addings.now c.args.calls.now c.live.result c.live.ensures
 
 pub returns-in-Err-Refused : goal.returns-in-Err-Refused
 returns-in-Err-Refused g c =

@@ -2,7 +2,6 @@
 
 #![tactic(auto)]
 
-pub mod answers;
 pub mod draft;
 pub mod error;
 mod limits;

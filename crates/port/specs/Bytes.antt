@@ -1,7 +1,6 @@
 -- Records as bytes: numbers of eight bytes each, the lowest byte first. Assumes nothing.
 use Rattle.std.specs.Prelude.{ℕ, ◌+◌, ◌*◌, ◌/◌, ◌%◌, List, [], ◌∷◌, ◌++◌, slice_index}
-use Rattle.std.proofs.Common.{of_z}
-use Rattle.std.specs.Int.{w64}
+use Rattle.std.specs.Int.{w64, cast_unsigned}
 use Rattle.port.specs.declared.records.CallRecord.{CallRecord}
 use Rattle.port.specs.declared.records.AnswerRecord.{AnswerRecord}
 
@@ -26,4 +25,4 @@ all_bytes (x ∷ xs) = eight x ++ all_bytes xs
 
 -- an answer's nine numbers: its kind, its lead by two's complement, its values
 abbrev pub words_of : AnswerRecord → List ℕ
-words_of r = r.kind ∷ of_z w64 r.lead ∷ slice_index r.values 0 ∷ slice_index r.values 1 ∷ slice_index r.values 2 ∷ slice_index r.values 3 ∷ slice_index r.values 4 ∷ slice_index r.values 5 ∷ slice_index r.values 6 ∷ []
+words_of r = r.kind ∷ cast_unsigned w64 r.lead ∷ slice_index r.values 0 ∷ slice_index r.values 1 ∷ slice_index r.values 2 ∷ slice_index r.values 3 ∷ slice_index r.values 4 ∷ slice_index r.values 5 ∷ slice_index r.values 6 ∷ []

@@ -29,7 +29,8 @@ pub fn turn_all<W: WaitingLine, S: SlotClock>(
     ensures { (c : Config) → Held W.WaitingLine S.SlotClock c [] desk.old → TurnedAll W.WaitingLine S.SlotClock c (min (length calls.now) (length answers.old)) calls.now answers.old answers.new desk.new }
 {
     let count = calls.len().min(answers.len());
-    for i in 0..count {
-        answers[i] = turn(desk, calls[i]);
+    // the places are named by their index, since nothing is known of what a `zip` over `iter_mut` has written
+    for (i, asked) in calls[..count].iter().enumerate() {
+        answers[i] = turn(desk, *asked);
     }
 }

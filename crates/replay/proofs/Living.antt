@@ -1,7 +1,7 @@
 -- A whole life of a link. Assumes nothing.
-use Rattle.std.proofs.Common.{◌≡◌, ℕ, Bool, true, false, cond, leb, List, [], ◌∷◌, ◌++◌, reverse, Ok, Err, Result, sym, refl, ap, ◌∙◌, subst, append_assoc, arith, IfOk, vec_items}
-use Rattle.waiting_line.specs.declared.line.WaitingLine.{Ghosts as WaitingLine}
-use Rattle.slot_clock.specs.declared.clock.SlotClock.{Ghosts as SlotClock}
+use Rattle.std.proofs.Common.{◌≡◌, ℕ, List, [], ◌∷◌, ◌++◌, reverse, Ok, Err, Result, sym, refl, ap, ◌∙◌, subst, append_assoc, arith}
+use Rattle.waiting_line.specs.declared.pair.Pair.{Pair}
+use Rattle.slot_clock.specs.State.{SlotState}
 use Rattle.tick_machine.specs.declared.refusal.Refusal.{Refusal}
 use Rattle.tick_machine.specs.declared.call.Call.{Call}
 use Rattle.tick_machine.specs.declared.call.Answer.{Answer}
@@ -9,16 +9,14 @@ use Rattle.tick_machine.specs.declared.call.Answer.TheVariants.{Made, Opened, Re
 use Rattle.tick_machine.specs.Lists.{none}
 use Rattle.tick_machine.specs.Slots.{round_length}
 use Rattle.tick_machine.specs.Machine.{Config}
-use Rattle.tick_machine.specs.Life.{within, adding, with_session, added, drafted, answers}
-use Rattle.link.specs.declared.draft.Draft.{Draft}
+use Rattle.tick_machine.specs.Life.{adding, with_session, added, drafted, answers}
 use Rattle.link.specs.declared.link.Link.{Link}
 use Rattle.link.specs.declared.slip.Slip.{Slip}
 use Rattle.link.specs.declared.error.MakeError.{MakeError}
 use Rattle.link.specs.declared.error.MakeError.TheVariants as error
-use Rattle.link.specs.Drafting.{Drafts, Makes, Opens}
+use Rattle.link.specs.Drafting.{Makes, Opens}
 use Rattle.link.proofs.Reached.{lawful}
 use Rattle.tick_machine.specs.declared.call.Making.{Making}
-use Rattle.replay.specs.declared.played.Played.{Played}
 use Rattle.replay.specs.History.{making_of, adding_answers, life_answers, history_answers, packets, OfLink, Lives, Plays}
 use Rattle.replay.specs.Hand.{InHand, Held, Called}
 
@@ -31,22 +29,9 @@ drafted_link : (c : Config) (ws : List ℕ) → (drafted c ws).link ≡ c.link
 drafted_link c [] = refl
 drafted_link c (w ∷ ws) = drafted_link (added c w) ws ∙ added_link (adding c w) w c
 
--- what passes four tests is what was made
-passed : (p q r s : Bool) (x c : Config) (a b d e : Refusal) → cond p (cond q (cond r (cond s (Ok x) (Err a)) (Err b)) (Err d)) (Err e) ≡ Ok c → x ≡ c
-passed true true true true x c a b d e h = cc
-passed true true true false x c a b d e h = let z : ◌≡◌ {A = ℕ} 0 1 = cc in absurd (omega arith)
-passed true true false s x c a b d e h = let z : ◌≡◌ {A = ℕ} 0 1 = cc in absurd (omega arith)
-passed true false r s x c a b d e h = let z : ◌≡◌ {A = ℕ} 0 1 = cc in absurd (omega arith)
-passed false q r s x c a b d e h = let z : ◌≡◌ {A = ℕ} 0 1 = cc in absurd (omega arith)
-
--- the number of what is made
-made_link : (m : Making) (c : Config) → making_of m ≡ Ok c → m.number ≡ c.link
-made_link m c h =
-    ap (λ (x : Config). x.link) (passed (leb m.number 65535) (within 65535 m.largest) (within 1024 m.capacity) (within 4096 m.weight) _ c _ _ _ _ h)
-
 -- nothing is in hand when a link is opened
-pub opened_held : {W S : Type 0} {line : WaitingLine W} {clock : SlotClock S} {c : Config} {l : Link W S} {round : ℕ} (ss : List Slip)
-    → Opens line clock c l round → ss ≡ [] → Held line clock c [] (record { link = l; slips = ss })
+pub opened_held : {W S : Type 0} {pairs : W → List Pair} {capacity : W → ℕ} {state : S → SlotState} {c : Config} {l : Link W S} {round : ℕ} (ss : List Slip)
+    → Opens pairs capacity state c l round → ss ≡ [] → Held pairs capacity state c [] (record { link = l; slips = ss })
 opened_held {c} ss o e = record { led = o.led; out = ap packets e; own = subst (OfLink c.link) (sym e) none }
 
 -- the answers of a life, put one after the other
@@ -62,9 +47,9 @@ all_told c addings calls number round said₀ said₁ said₂ said₃ said₄ e�
     let q₄ : said₄ ≡ Made number ∷ ((adds ++ Opened round ∷ []) ++ rest) = e₄ ∙ ap (λ (x : List Answer). x ++ rest) q₃ in
     q₄ ∙ ap (λ (x : List Answer). Made number ∷ x) (append_assoc adds (Opened round ∷ []) rest) ∙ (λ k. Made (n k) ∷ (adds ++ Opened (r k) ∷ rest))
 
-pub lives : {W S : Type 0} {line : WaitingLine W} {clock : SlotClock S} {l₀ : Link W S} {d : InHand W S} (c : Config) (addings : List ℕ) (calls : List Call) (number round : ℕ)
+pub lives : {W S : Type 0} {pairs : W → List Pair} {capacity : W → ℕ} {state : S → SlotState} {l₀ : Link W S} {d : InHand W S} (c : Config) (addings : List ℕ) (calls : List Call) (number round : ℕ)
     (said₀ said₁ said₂ said₃ said₄ : List Answer) → said₀ ≡ [] → said₁ ≡ said₀ ++ Made number ∷ [] → said₂ ≡ said₁ ++ adding_answers c addings → said₃ ≡ said₂ ++ Opened round ∷ [] → number ≡ c.link
-    → Opens line clock (drafted c addings) l₀ round → Called line clock (drafted c addings) calls said₃ d said₄ → Lives c addings calls said₄ d.slips
+    → Opens pairs capacity state (drafted c addings) l₀ round → Called pairs capacity state (drafted c addings) calls said₃ d said₄ → Lives c addings calls said₄ d.slips
 lives {d} c addings calls number round said₀ said₁ said₂ said₃ said₄ e₀ e₁ e₂ e₃ n o p = record {
   told = all_told c addings calls number round said₀ said₁ said₂ said₃ said₄ e₀ e₁ e₂ e₃ p.told n o.told;
   lawful = lawful (drafted c addings) p.held.led.drafted (reverse calls);
@@ -72,42 +57,15 @@ lives {d} c addings calls number round said₀ said₁ said₂ said₃ said₄ e
   own = subst (λ (x : ℕ). OfLink x d.slips) (drafted_link c addings) p.held.own;
 }
 
--- a making that was granted
-pub record Granted {W : Type 0} (line : WaitingLine W) (m : Making) (d : Draft W) : Type 0 where
-  pub config : Config
-  pub is : making_of m ≡ Ok config
-  pub drafts : Drafts line config d
-  pub number : m.number ≡ config.link
-
-granted_by : {W : Type 0} (line : WaitingLine W) (m : Making) (d : Draft W) (r : Result Config Refusal) → making_of m ≡ r → Makes line r (Ok d) → Granted line m d
-granted_by line m d (Ok c) e h = record { config = c; is = e; drafts = h; number = made_link m c e }
-granted_by line m d (Err x) e h = absurd h
-
-pub granted : {W : Type 0} (line : WaitingLine W) (m : Making) (d : Draft W) → Makes line (making_of m) (Ok d) → Granted line m d
-granted line m d h = granted_by line m d (making_of m) refl h
-
-same_config : {c d : Config} {r : Result Config Refusal} → r ≡ Ok c → r ≡ Ok d → c ≡ d
-same_config p q = cc
-
-pub plays : {W : Type 0} {line : WaitingLine W} {m : Making} {d : Draft W} (g : Granted line m d) (addings : List ℕ) (calls : List Call) (said : List Answer) (ss : List Slip)
-    → Lives g.config addings calls said ss → Plays m addings calls said ss
-plays {m} g addings calls said ss h = record {
-  told = h.told ∙ ap (λ (r : Result Config Refusal). history_answers r addings calls) (sym g.is);
-  lawful = λ c e. (subst (λ (x : Config). Lives x addings calls said ss) (same_config g.is e) h).lawful;
-  out = λ c e. (subst (λ (x : Config). Lives x addings calls said ss) (same_config g.is e) h).out;
-  own = subst (λ (n : ℕ). OfLink n ss) (sym g.number) h.own;
-  none = λ e q. let z : ◌≡◌ {A = ℕ} 0 1 = cc (g.is, q) in absurd (omega arith);
-}
-
 -- a making that was refused
-refused_by : {W : Type 0} (line : WaitingLine W) (m : Making) (e : Refusal) (r : Result Config Refusal) → making_of m ≡ r → Makes {W = W} line r (Err (error.Refused e)) → making_of m ≡ Err e
-refused_by line m e (Ok c) q h = absurd h
-refused_by line m e (Err x) q h = q ∙ ap Err (sym h)
+refused_by : {W : Type 0} (pairs : W → List Pair) (capacity : W → ℕ) (m : Making) (e : Refusal) (r : Result Config Refusal) → making_of m ≡ r → Makes {W = W} pairs capacity r (Err (error.Refused e)) → making_of m ≡ Err e
+refused_by pairs capacity m e (Ok c) q h = absurd h
+refused_by pairs capacity m e (Err x) q h = q ∙ ap Err (sym h)
 
-pub refused_plays : {W : Type 0} (line : WaitingLine W) (m : Making) (e : Refusal) (addings : List ℕ) (calls : List Call) (said₀ said : List Answer) (ss : List Slip) (x : MakeError)
-    → x ≡ error.Refused e → Makes {W = W} line (making_of m) (Err x) → said₀ ≡ [] → said ≡ said₀ ++ Refused e ∷ [] → ss ≡ [] → Plays m addings calls said ss
-refused_plays {W} line m e addings calls said₀ said ss x xe h e₀ q n =
-    let is = refused_by line m e (making_of m) refl (subst (λ (y : MakeError). Makes {W = W} line (making_of m) (Err y)) xe h) in
+pub refused_plays : {W : Type 0} (pairs : W → List Pair) (capacity : W → ℕ) (m : Making) (e : Refusal) (addings : List ℕ) (calls : List Call) (said₀ said : List Answer) (ss : List Slip) (x : MakeError)
+    → x ≡ error.Refused e → Makes {W = W} pairs capacity (making_of m) (Err x) → said₀ ≡ [] → said ≡ said₀ ++ Refused e ∷ [] → ss ≡ [] → Plays m addings calls said ss
+refused_plays {W} pairs capacity m e addings calls said₀ said ss x xe h e₀ q n =
+    let is = refused_by pairs capacity m e (making_of m) refl (subst (λ (y : MakeError). Makes {W = W} pairs capacity (making_of m) (Err y)) xe h) in
     record {
       told = q ∙ ap (λ (x : List Answer). x ++ Refused e ∷ []) e₀ ∙ ap (λ (r : Result Config Refusal). history_answers r addings calls) (sym is);
       lawful = λ c p. let z : ◌≡◌ {A = ℕ} 0 1 = cc (is, p) in absurd (omega arith);
@@ -115,9 +73,3 @@ refused_plays {W} line m e addings calls said₀ said ss x xe h e₀ q n =
       own = subst (OfLink m.number) (sym n) none;
       none = λ x p. n;
     }
-
--- where the life of what was made is what is promised, the history is
-pub if_lives : {W E : Type 0} {line : WaitingLine W} {m : Making} {d : Draft W} (g : Granted line m d) (addings : List ℕ) (calls : List Call) (r : Result Played E)
-    → IfOk r (λ p. (c : Config) → Drafts line c d → m.number ≡ c.link → Lives c addings calls (vec_items p.answers) (vec_items p.slips)) → IfOk r (λ p. Plays m addings calls (vec_items p.answers) (vec_items p.slips))
-if_lives g addings calls (Ok p) h = plays g addings calls _ _ (h g.config g.drafts g.number)
-if_lives g addings calls (Err e) h = tt

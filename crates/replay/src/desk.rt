@@ -4,7 +4,7 @@ ghost use Rattle.tick_machine.specs.declared.call.Call.TheVariants.{Collect};
 ghost use Rattle.tick_machine.specs.Machine.{Config};
 ghost use Rattle.tick_machine.specs.Life.{settling};
 ghost use Rattle.link.specs.Drafting.{Drafts, Opens};
-ghost use Rattle.replay.specs.Hand.{Taken, Missing, Held, Answers, Called};
+ghost use Rattle.replay.specs.Hand.{Taken, Missing, Held, Reached, Answers, Called};
 
 use link::draft::Draft;
 use link::link::Link;
@@ -52,6 +52,27 @@ fn take(own: u64, slips: &mut Vec<Slip>, number: u64, packet: u64) -> Result<Sli
 }
 
 impl<W: WaitingLine, S: SlotClock> Desk<W, S> {
+    // A desk of that link and those slips in hand.
+    pub fn new(link: Link<W, S>, slips: Vec<Slip>) -> Desk<W, S>
+        requires held { Reached W.WaitingLine.pairs W.WaitingLine.capacity S.SlotClock.state (record { link = link; slips = slips.items }) }
+        requires places { 1024 ≤ vec_capacity slips }
+        ensures link { result.link ≡ link }
+        ensures slips { result.slips ≡ slips.items }
+    {
+        Desk { link, slips }
+    }
+
+    // The link and the slips in hand.
+    pub fn into_parts(self) -> (Link<W, S>, Vec<Slip>)
+        ensures link { result.0 ≡ self.link }
+        ensures slips { result.1.items ≡ self.slips }
+        ensures held { Reached W.WaitingLine.pairs W.WaitingLine.capacity S.SlotClock.state self }
+        ensures places { 1024 ≤ vec_capacity result.1 }
+    {
+        let Desk { link, slips } = self;
+        (link, slips)
+    }
+
     // Opens the draft, with no slip in hand; and the number of slots in a round.
     pub fn open(heap: Global, draft: Draft<W>) -> Result<(Desk<W, S>, u64), AllocError>
     where
@@ -72,7 +93,7 @@ impl<W: WaitingLine, S: SlotClock> Desk<W, S> {
         S: Drop,
         ensures { result.items ≡ self.slips }
     {
-        let Desk { link: _, slips } = self;
+        let (_link, slips) = self.into_parts();
         slips
     }
 

@@ -7,7 +7,6 @@ use crate::clerk::OpenLink;
 use crate::untimely::untimely;
 use history_reply::replies::Reply;
 use history_text::commands::Command;
-use link::answers::{of_arrival, of_figures, of_move};
 use slot_clock::clock::SlotClock;
 use tick_machine::call::{Answer, Settlement};
 use waiting_line::line::WaitingLine;
@@ -63,15 +62,24 @@ impl<W: WaitingLine, S: SlotClock> OpenLink<W, S> {
     {
         match command {
             Command::Arrive(session, size, tag) => {
-                let answer = of_arrival(self.link.arrive(session, size, tag));
+                let answer = self.link.arrive(session, size, tag).map_or_else(
+                    Answer::Refused,
+                    |(number, stamp, latest)| Answer::Accepted(number, stamp, latest),
+                );
                 (self, Reply::Answer(answer))
             }
             Command::MoveTo(tick) => {
-                let answer = of_move(tick, self.link.move_to(tick));
+                let answer = self
+                    .link
+                    .move_to(tick)
+                    .map_or_else(Answer::Refused, |left| Answer::Moved(tick, left));
                 (self, Reply::Answer(answer))
             }
             Command::AskFigures(session) => {
-                let answer = of_figures(self.link.figures(session));
+                let answer = self
+                    .link
+                    .figures(session)
+                    .map_or_else(Answer::Refused, Answer::FiguresAre);
                 (self, Reply::Answer(answer))
             }
             Command::AskTotals => {

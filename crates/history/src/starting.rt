@@ -9,7 +9,6 @@ use crate::clerk::{LinkClerk, OpenLink};
 use crate::untimely::untimely;
 use history_reply::replies::Reply;
 use history_text::commands::Command;
-use link::answers::of_adding;
 use link::draft::Draft;
 use link::error::MakeError;
 use slot_clock::clock::SlotClock;
@@ -48,7 +47,9 @@ pub fn draw_up<W: WaitingLine, S: SlotClock>(
 {
     match command {
         Command::Add(weight) => {
-            let answer = of_adding(draft.add(weight));
+            let answer = draft
+                .add(weight)
+                .map_or_else(Answer::Refused, Answer::Added);
             (LinkClerk::Drafting(draft), Reply::Answer(answer))
         }
         Command::Open => {

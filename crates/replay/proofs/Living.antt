@@ -1,5 +1,7 @@
 -- A whole life of a link. Assumes nothing.
 use Rattle.std.proofs.Common.{◌≡◌, ℕ, List, [], ◌∷◌, ◌++◌, reverse, Ok, Err, Result, sym, refl, ap, ◌∙◌, subst, append_assoc, arith}
+use Rattle.waiting_line.specs.declared.line.WaitingLine.{Ghosts as WaitingLine}
+use Rattle.slot_clock.specs.declared.clock.SlotClock.{Ghosts as SlotClock}
 use Rattle.waiting_line.specs.declared.pair.Pair.{Pair}
 use Rattle.slot_clock.specs.State.{SlotState}
 use Rattle.tick_machine.specs.declared.refusal.Refusal.{Refusal}
@@ -30,8 +32,8 @@ drafted_link c [] = refl
 drafted_link c (w ∷ ws) = drafted_link (added c w) ws ∙ added_link (adding c w) w c
 
 -- nothing is in hand when a link is opened
-pub opened_held : {W S : Type 0} {pairs : W → List Pair} {capacity : W → ℕ} {state : S → SlotState} {c : Config} {l : Link W S} {round : ℕ} (ss : List Slip)
-    → Opens pairs capacity state c l round → ss ≡ [] → Held pairs capacity state c [] (record { link = l; slips = ss })
+pub opened_held : {W S : Type 0} {line : WaitingLine W} {clock : SlotClock S} {c : Config} {l : Link W S} {round : ℕ} (ss : List Slip)
+    → Opens line clock c l round → ss ≡ [] → Held line clock c [] (record { link = l; slips = ss })
 opened_held {c} ss o e = record { led = o.led; out = ap packets e; own = subst (OfLink c.link) (sym e) none }
 
 -- the answers of a life, put one after the other
@@ -47,9 +49,9 @@ all_told c addings calls number round said₀ said₁ said₂ said₃ said₄ e�
     let q₄ : said₄ ≡ Made number ∷ ((adds ++ Opened round ∷ []) ++ rest) = e₄ ∙ ap (λ (x : List Answer). x ++ rest) q₃ in
     q₄ ∙ ap (λ (x : List Answer). Made number ∷ x) (append_assoc adds (Opened round ∷ []) rest) ∙ (λ k. Made (n k) ∷ (adds ++ Opened (r k) ∷ rest))
 
-pub lives : {W S : Type 0} {pairs : W → List Pair} {capacity : W → ℕ} {state : S → SlotState} {l₀ : Link W S} {d : InHand W S} (c : Config) (addings : List ℕ) (calls : List Call) (number round : ℕ)
+pub lives : {W S : Type 0} {line : WaitingLine W} {clock : SlotClock S} {l₀ : Link W S} {d : InHand W S} (c : Config) (addings : List ℕ) (calls : List Call) (number round : ℕ)
     (said₀ said₁ said₂ said₃ said₄ : List Answer) → said₀ ≡ [] → said₁ ≡ said₀ ++ Made number ∷ [] → said₂ ≡ said₁ ++ adding_answers c addings → said₃ ≡ said₂ ++ Opened round ∷ [] → number ≡ c.link
-    → Opens pairs capacity state (drafted c addings) l₀ round → Called pairs capacity state (drafted c addings) calls said₃ d said₄ → Lives c addings calls said₄ d.slips
+    → Opens line clock (drafted c addings) l₀ round → Called line clock (drafted c addings) calls said₃ d said₄ → Lives c addings calls said₄ d.slips
 lives {d} c addings calls number round said₀ said₁ said₂ said₃ said₄ e₀ e₁ e₂ e₃ n o p = record {
   told = all_told c addings calls number round said₀ said₁ said₂ said₃ said₄ e₀ e₁ e₂ e₃ p.told n o.told;
   lawful = lawful (drafted c addings) p.held.led.drafted (reverse calls);
@@ -58,14 +60,14 @@ lives {d} c addings calls number round said₀ said₁ said₂ said₃ said₄ e
 }
 
 -- a making that was refused
-refused_by : {W : Type 0} (pairs : W → List Pair) (capacity : W → ℕ) (m : Making) (e : Refusal) (r : Result Config Refusal) → making_of m ≡ r → Makes {W = W} pairs capacity r (Err (error.Refused e)) → making_of m ≡ Err e
-refused_by pairs capacity m e (Ok c) q h = absurd h
-refused_by pairs capacity m e (Err x) q h = q ∙ ap Err (sym h)
+refused_by : {W : Type 0} (line : WaitingLine W) (m : Making) (e : Refusal) (r : Result Config Refusal) → making_of m ≡ r → Makes {W = W} line r (Err (error.Refused e)) → making_of m ≡ Err e
+refused_by line m e (Ok c) q h = absurd h
+refused_by line m e (Err x) q h = q ∙ ap Err (sym h)
 
-pub refused_plays : {W : Type 0} (pairs : W → List Pair) (capacity : W → ℕ) (m : Making) (e : Refusal) (addings : List ℕ) (calls : List Call) (said₀ said : List Answer) (ss : List Slip) (x : MakeError)
-    → x ≡ error.Refused e → Makes {W = W} pairs capacity (making_of m) (Err x) → said₀ ≡ [] → said ≡ said₀ ++ Refused e ∷ [] → ss ≡ [] → Plays m addings calls said ss
-refused_plays {W} pairs capacity m e addings calls said₀ said ss x xe h e₀ q n =
-    let is = refused_by pairs capacity m e (making_of m) refl (subst (λ (y : MakeError). Makes {W = W} pairs capacity (making_of m) (Err y)) xe h) in
+pub refused_plays : {W : Type 0} (line : WaitingLine W) (m : Making) (e : Refusal) (addings : List ℕ) (calls : List Call) (said₀ said : List Answer) (ss : List Slip) (x : MakeError)
+    → x ≡ error.Refused e → Makes {W = W} line (making_of m) (Err x) → said₀ ≡ [] → said ≡ said₀ ++ Refused e ∷ [] → ss ≡ [] → Plays m addings calls said ss
+refused_plays {W} line m e addings calls said₀ said ss x xe h e₀ q n =
+    let is = refused_by line m e (making_of m) refl (subst (λ (y : MakeError). Makes {W = W} line (making_of m) (Err y)) xe h) in
     record {
       told = q ∙ ap (λ (x : List Answer). x ++ Refused e ∷ []) e₀ ∙ ap (λ (r : Result Config Refusal). history_answers r addings calls) (sym is);
       lawful = λ c p. let z : ◌≡◌ {A = ℕ} 0 1 = cc (is, p) in absurd (omega arith);

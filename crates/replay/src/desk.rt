@@ -54,7 +54,7 @@ fn take(own: u64, slips: &mut Vec<Slip>, number: u64, packet: u64) -> Result<Sli
 impl<W: WaitingLine, S: SlotClock> Desk<W, S> {
     // A desk of that link and those slips in hand.
     pub fn new(link: Link<W, S>, slips: Vec<Slip>) -> Desk<W, S>
-        requires held { Reached W.WaitingLine.pairs W.WaitingLine.capacity S.SlotClock.state (record { link = link; slips = slips.items }) }
+        requires held { Reached W.WaitingLine S.SlotClock (record { link = link; slips = slips.items }) }
         requires places { 1024 ≤ vec_capacity slips }
         ensures link { result.link ≡ link }
         ensures slips { result.slips ≡ slips.items }
@@ -66,7 +66,7 @@ impl<W: WaitingLine, S: SlotClock> Desk<W, S> {
     pub fn into_parts(self) -> (Link<W, S>, Vec<Slip>)
         ensures link { result.0 ≡ self.link }
         ensures slips { result.1.items ≡ self.slips }
-        ensures held { Reached W.WaitingLine.pairs W.WaitingLine.capacity S.SlotClock.state self }
+        ensures held { Reached W.WaitingLine S.SlotClock self }
         ensures places { 1024 ≤ vec_capacity result.1 }
     {
         let Desk { link, slips } = self;

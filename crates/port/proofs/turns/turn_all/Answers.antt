@@ -14,10 +14,10 @@ loop-i-preserved g c =
       λ f h.
           let turned = c.turn.ensures f _ (inv.1 f h).held in
           turned_more calls c.loop-i.i _ (omega (arith, few)) c.args.answers.now c.loop-i.answers c.turn.result (omega (arith, inv.0, few)) (inv.1 f h)
-          (subst (λ (r : CallRecord). Turned g.W.WaitingLine.pairs g.W.WaitingLine.capacity g.S.SlotClock.state f (grown_by [] (take c.loop-i.i calls)) r c.turn.result c.turn.new.desk) (get_or-take c.min-count.result calls c.loop-i.i _ (omega (arith, few))) turned),
+          (subst (λ (r : CallRecord). Turned g.W.WaitingLine g.S.SlotClock f (grown_by [] (take c.loop-i.i calls)) r c.turn.result c.turn.new.desk) (get_or-take c.min-count.result calls c.loop-i.i _ (omega (arith, few))) turned),
     )
 
 pub returns : goal.returns
 returns g c f h =
     let few = length-take c.min-count.result c.args.calls.now in
-    subst (λ (n : ℕ). TurnedAll g.W.WaitingLine.pairs g.W.WaitingLine.capacity g.S.SlotClock.state f n c.args.calls.now c.args.answers.now c.loop-i.answers c.loop-i.desk) (omega (arith, few)) (c.loop-i.invariant.1 f h)
+    subst (λ (n : ℕ). TurnedAll g.W.WaitingLine g.S.SlotClock f n c.args.calls.now c.args.answers.now c.loop-i.answers c.loop-i.desk) (omega (arith, few)) (c.loop-i.invariant.1 f h)

@@ -27,7 +27,7 @@ impl Held {
     // Nothing is owed, and no tick has passed.
     pub fn make(weights: &[u64]) -> Result<Held, ClockRefusal>
         ensures made { made_state held_state result ≡ made_answer weights.now }
-        ensures fresh { IfOk result (λ h. (h.cursor ≡ 0) × (next_of h ≡ replicate (length weights.now) 0)) }
+        ensures fresh { IfOk result (λ h. (h.cursor ≡ 0) × (next_of h ≡ replicate (length (weights_of h)) 0)) }
     {
         let layout = Layout::make(weights)?;
         let mut next = ArrayVec::from([0; 64]);

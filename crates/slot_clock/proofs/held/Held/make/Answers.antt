@@ -1,4 +1,4 @@
-use Rattle.std.proofs.Common.{◌≡◌, ℕ, ◌≤◌, length, take, replicate, refl, sym, ap, ◌∙◌, arith}
+use Rattle.std.proofs.Common.{◌≡◌, ℕ, ◌≤◌, List, length, take, replicate, refl, sym, ap, ◌∙◌, arith}
 use lib.ListN.{length-replicate}
 use Rattle.std.proofs.lemmas.List.{take-replicate}
 use Rattle.slot_clock.specs.Calls.{no_zero, made_answer}
@@ -6,18 +6,19 @@ use Rattle.slot_clock.specs.Held.{held_state}
 use Rattle.slot_clock.proofs.Making.{starts_tops, starts_sum, made}
 use Rattle.slot_clock.proofs.held.Held.make.Goals as goal
 
+fresh_nexts : (ws given next zeros : List ℕ) → ws ≡ given → length ws ≤ 64 → next ≡ take (length given) zeros → zeros ≡ replicate 64 0 → next ≡ replicate (length ws) 0
+fresh_nexts ws given next zeros e few n z =
+    n ∙ ap (take (length given)) z ∙ take-replicate (length given) 64 0 (omega (arith, few, ap length e)) ∙ ap (λ n. replicate n 0) (sym (ap length e))
+
 pub invariant_of-result : goal.invariant_of-result
 invariant_of-result c =
     let l = c.in_ok-layout.layout in
     let ws = l.weights.items in
     let next = c.truncate.new.self.items in
-    let given : ws ≡ c.args.weights.now = c.in_ok-layout.ensures.0 in
-    let few : length c.args.weights.now ≤ 64 = omega (arith, l.few, ap length given) in
-    let none : next ≡ replicate (length ws) 0
-    = c.truncate.ensures.items ∙ ap (take (length c.args.weights.now)) c.from-next.ensures.0 ∙ take-replicate (length c.args.weights.now) 64 0 few ∙ ap (λ n. replicate n 0) (sym (ap length given)) in
+    let none = fresh_nexts ws c.args.weights.now next c.from-next.result.items c.in_ok-layout.ensures.0 l.few c.truncate.ensures.items c.from-next.ensures.0 in
     record {
       small = c.in_ok-layout.ensures.1;
-      each = ap no_zero given ∙ c.in_ok-layout.ensures.2;
+      each = ap no_zero c.in_ok-layout.ensures.0 ∙ c.in_ok-layout.ensures.2;
       same = ap length none ∙ length-replicate (length ws) (let z : ℕ = 0 in z);
       tops = starts_tops ws next none;
       paced = omega arith;
@@ -31,12 +32,9 @@ unfolding held_state
 returns c =
     let l = c.in_ok-layout.layout in
     let ws = l.weights.items in
-    let next = c.truncate.new.self.items in
     let given : ws ≡ c.args.weights.now = c.in_ok-layout.ensures.0 in
-    let few : length c.args.weights.now ≤ 64 = omega (arith, l.few, ap length given) in
-    let zeros : next ≡ replicate (length c.args.weights.now) 0
-    = c.truncate.ensures.items ∙ ap (take (length c.args.weights.now)) c.from-next.ensures.0 ∙ take-replicate (length c.args.weights.now) 64 0 few in
+    let none = fresh_nexts ws c.args.weights.now c.truncate.new.self.items c.from-next.result.items given l.few c.truncate.ensures.items c.from-next.ensures.0 in
     record {
-      made = made ws next (zeros ∙ ap (λ n. replicate n 0) (sym (ap length given))) l.slots l.few l.whole l.some c.in_ok-layout.ensures.1 (ap no_zero given ∙ c.in_ok-layout.ensures.2) ∙ ap made_answer given;
-      fresh = (refl, zeros);
+      made = made ws c.truncate.new.self.items none l.slots l.few l.whole l.some c.in_ok-layout.ensures.1 (ap no_zero given ∙ c.in_ok-layout.ensures.2) ∙ ap made_answer given;
+      fresh = (refl, none);
     }

@@ -14,6 +14,7 @@ pub struct Parts<'a> {
     at: u8,
 }
 
+// Where the byte stands first.
 fn first_place(text: &[u8], at: u8) -> Option<usize>
     ensures { result ≡ position (λ x. x == at) text.now }
 {

@@ -77,6 +77,7 @@ fn command_from(word: Word, fields: &mut Fields) -> Result<Command, Fault>
     }
 }
 
+// How many fields come after the first: one for each space.
 #[tactic(auto, using(crate::proofs::LineRead::fields_after))]
 fn count_after_first(line: &[u8]) -> usize
     ensures { result ≡ length (later (cut 32 line.now)) }

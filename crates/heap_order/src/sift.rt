@@ -1,4 +1,5 @@
 // Sifting: a slice that is a heap but for one place becomes a heap again by exchanges alone.
+// (Two loops with a condition: the place goes along a path of the tree, which no iterator of the library walks.)
 ghost use Rattle.std.specs.Prelude.{◌≡◌, ◌+◌, ◌*◌, ◌<◌, length, slice_index_or};
 ghost use Rattle.std.specs.List.Sorted.{IsPermutation};
 ghost use Rattle.heap_order.specs.Heaps.{Heaped, Loose, Heavy, LeastChild, parent};

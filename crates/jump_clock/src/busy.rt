@@ -62,7 +62,7 @@ impl Busy {
         self.places.first().copied()
     }
 
-    // The first leaves.
+    // The first leaves. (Its caller has just read that there is one, so an Option would be tested twice.)
     pub fn drop_first(&mut self)
         requires { 0 < length (items self.old) }
         ensures lost { Lost (items self.old) (slice_index_or (items self.old) 0 blank) (items self.new) }

@@ -9,6 +9,7 @@ pub struct Session {
 }
 
 // So many bytes of the session were accepted: its record is lent, and all others keep their values.
+// (Beside `note_sent`, which lends the other field: with the field as a closure, the promise would say what the closure did, and no more the sum.)
 pub fn note_accepted(sessions: &mut Vec<Session>, session: u64, bytes: u64)
     ensures accepted { session < vec_len sessions.old → slice_index (map (λ s. s.accepted) sessions.old.items) session + bytes < 2 ^ 64 → map (λ s. s.accepted) sessions.new.items ≡ raise session bytes (map (λ s. s.accepted) sessions.old.items) }
     ensures sent { map (λ s. s.sent) sessions.new.items ≡ map (λ s. s.sent) sessions.old.items }

@@ -79,7 +79,8 @@ impl<const MOST: usize> Layout<MOST> {
         self.holder(slot % self.slots)
     }
 
-    // How many positions of the round count.
+    // How many positions of the round count. (Here and below a clause asks that `counts` may be called at each session: a closure is of no type of
+    // ours that could say so, and to ask it at every number would ask more.)
     fn weight<F: Fn(usize) -> bool>(&self, counts: &F) -> u64
         requires { (j : ℕ) → j < length self.now.weights.items → F.pre counts.now j }
         ensures is { (b : ℕ → Bool) → Tells (F.post counts.now) b → result ≡ whole_weight b 0 self.now.weights.items }

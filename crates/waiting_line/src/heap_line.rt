@@ -76,6 +76,7 @@ impl WaitingLine for HeapLine {
         })
     }
 
+    // (The same line in both lists: a body in the trait would need one more call, for the capacity, of every line.)
     fn room(&self) -> Result<(), LineRefusal> {
         self.limit.room(self.size())
     }

@@ -22,7 +22,7 @@ impl From<AllocError> for MakeRefusal {
 }
 
 impl MakeRefusal {
-    // The number by which the refusal is told. A want of memory has none.
+    // The number by which the refusal is told. A want of memory has none, so the cases have no numbers of their own.
     pub fn number(self) -> Option<u64>
         ensures { result ≡ make_number self }
     {

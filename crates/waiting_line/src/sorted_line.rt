@@ -57,6 +57,7 @@ impl WaitingLine for SortedLine {
         Ok(SortedLine { items, limit })
     }
 
+    // (The same line in both lists: a body in the trait would need one more call, for the capacity, of every line.)
     fn room(&self) -> Result<(), LineRefusal> {
         self.limit.room(self.size())
     }
@@ -73,6 +74,7 @@ impl WaitingLine for SortedLine {
         self.items.first().copied()
     }
 
+    // (A test first, since a vector has no method that takes the first of perhaps none.)
     fn take(&mut self) -> Option<Pair> {
         if self.items.is_empty() {
             return None;

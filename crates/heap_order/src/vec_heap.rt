@@ -1,5 +1,5 @@
 // A heap in memory that is reserved when it is made: nothing after that allocates.
-ghost use Rattle.std.specs.Prelude.{◌≡◌, ◌+◌, ◌-◌, ◌<◌, false, [], ◌∷◌, ◌++◌, length, option_copied, slice_get, slice_index_or, slice_set, IfOk, MatchOption};
+ghost use Rattle.std.specs.Prelude.{◌≡◌, ◌+◌, ◌-◌, ◌<◌, false, [], ◌∷◌, ◌++◌, length, option_copied, slice_get, slice_index_or, slice_set, vec_capacity, IfOk, MatchOption};
 ghost use Rattle.std.specs.List.Sorted.{IsPermutation};
 ghost use Rattle.heap_order.specs.Heaps.{Heaped, FirstLeast};
 
@@ -33,6 +33,25 @@ impl<T: TotalOrder> Heap<T> {
     {
         let items = Vec::with_capacity(alloc, capacity)?;
         Ok(Heap { items })
+    }
+
+    // The heap of these elements, which lie as one.
+    pub fn new(items: Vec<T>) -> Heap<T>
+        requires { Heaped T.before items.items }
+        ensures value { result.items ≡ items.items }
+        ensures capacity { result.capacity ≡ vec_capacity items }
+    {
+        Heap { items }
+    }
+
+    // The elements as they lie.
+    pub fn into_vec(self) -> Vec<T>
+        ensures value { result.items ≡ self.items }
+        ensures capacity { vec_capacity result ≡ self.capacity }
+        ensures heaped { Heaped T.before result.items }
+    {
+        let Heap { items } = self;
+        items
     }
 
     pub fn as_slice(&self) -> &[T]

@@ -1,16 +1,27 @@
 -- Slips in hand: taking one, putting one in, and what a settlement leaves. Assumes nothing.
-use Rattle.std.proofs.Common.{◌≡◌, ℕ, zero, suc, ◌<◌, List, [], ◌∷◌, ◌++◌, length, get_or, sym, refl, ap, ◌∙◌, subst, arith}
+use Rattle.std.proofs.Common.{◌≡◌, ℕ, zero, suc, ◌<◌, List, [], ◌∷◌, ◌++◌, length, get_or, Ok, Err, sym, refl, ap, ◌∙◌, subst, arith}
 use lib.ListN.{length-map}
 use Rattle.std.proofs.lemmas.List.{get_or-map}
 use Rattle.std.specs.List.{remove}
+use Rattle.waiting_line.specs.declared.line.WaitingLine.{Ghosts as WaitingLine}
+use Rattle.slot_clock.specs.declared.clock.SlotClock.{Ghosts as SlotClock}
+use Rattle.tick_machine.specs.declared.refusal.Refusal.{Refusal}
 use Rattle.tick_machine.specs.declared.refusal.Refusal.TheVariants.{OtherLink, NotOut}
+use Rattle.tick_machine.specs.declared.call.Call.{Call}
+use Rattle.tick_machine.specs.declared.call.Settlement.{Settlement}
+use Rattle.tick_machine.specs.declared.call.Settlement.TheVariants as how
+use Rattle.tick_machine.specs.declared.call.Answer.TheVariants.{Filed, Returned, Refused}
+use Rattle.tick_machine.specs.Machine.{Config}
+use Rattle.tick_machine.specs.Life.{settlement, settling, granted, told, filed, returned, steps, if_granted, after}
 use Rattle.tick_machine.specs.Lists.{none, more}
 use Rattle.tick_machine.specs.Desk.{among}
+use Rattle.link.specs.declared.link.Link.{Link}
 use Rattle.link.specs.declared.slip.Slip.{Slip}
+use Rattle.link.specs.Promise.{settled, Goes}
 use Rattle.link.specs.Places.{At, Nowhere}
-use Rattle.link.proofs.Slips.{at_among, at_without, nowhere_among, other_link, not_out}
+use Rattle.link.proofs.Slips.{at_among, at_without, nowhere_among, other_link, not_out, is_out, settle_refused}
 use Rattle.replay.specs.History.{packets, OfLink}
-use Rattle.replay.specs.Hand.{Taken, Missing}
+use Rattle.replay.specs.Hand.{Held, Answered, Taken, Missing}
 
 -- some slip, for reads past the end
 blank : Slip
@@ -74,3 +85,35 @@ not_in_hand own number k ss h w = record {
   refused = λ c m e o. not_out c number k m (h ∙ sym e) (ap (among k) (sym o) ∙ nowhere_among k (packets ss) (nowhere_numbers k ss w));
   same = refl;
 }
+
+module _ {W S : Type 0} {line : WaitingLine W} {clock : SlotClock S} {c : Config} {calls : List Call} {l : Link W S} {ss ss' : List Slip} {s : Slip} (own number packet : ℕ)
+    (h : Held line clock c calls (record { link = l; slips = ss })) (t : Taken own number packet ss s ss') where
+  granted_there : settlement c s.says.link s.says.packet (after c calls) ≡ Ok s.says.packet
+  granted_there = is_out c s.says.link s.says.packet (after c calls) (t.link_is c.link h.own) (ap (λ k. among k (after c calls).desk.out) t.packet_is ∙ ap (among packet) (sym h.out) ∙ t.there)
+
+  -- a slip in hand is never refused
+  pub in_hand_granted : (e : Refusal) (b : Slip) (l' : Link W S) (w : Settlement) → Goes line clock c calls l (settling w s.says.link s.says.packet) (settled (granted w) (Err (e, b))) l' → ⊥
+  in_hand_granted e b l' how.File g = let f : Refused e ≡ Filed s.says.packet = g.told ∙ ap (told Filed) granted_there in let z : ◌≡◌ {A = ℕ} 0 1 = cc in omega arith
+  in_hand_granted e b l' how.Return g = let f : Refused e ≡ Returned s.says.packet = g.told ∙ ap (told Returned) granted_there in let z : ◌≡◌ {A = ℕ} 0 1 = cc in omega arith
+
+module _ {W S : Type 0} {line : WaitingLine W} {clock : SlotClock S} {c : Config} {calls : List Call} {l : Link W S} {ss ss' : List Slip} (own number packet : ℕ) (e : Refusal)
+    (h : Held line clock c calls (record { link = l; slips = ss })) (m : Missing own number packet ss e ss') (same : c.link ≡ own) where
+  refused : settlement c number packet (after c calls) ≡ Err e
+  refused = m.refused c (after c calls) same h.out
+
+  nothing : (w : Settlement) → (after c (settling w number packet ∷ calls)).desk.out ≡ (after c calls).desk.out
+  nothing how.File = ap (λ r. (steps c (if_granted r (filed packet ∷ [])) (after c calls)).desk.out) refused
+  nothing how.Return = ap (λ r. (steps c (if_granted r (returned packet ∷ [])) (after c calls)).desk.out) refused
+
+  -- a settlement of a slip that is not in hand is answered as the machine answers it
+  pub missing_answered : (w : Settlement) → Answered line clock c calls (settling w number packet) (Refused e) (record { link = l; slips = ss' })
+  missing_answered w =
+      let g = settle_refused h.led number packet w e blank refused in
+      record {
+        held = record {
+          led = g.led;
+          out = ap packets m.same ∙ h.out ∙ sym (nothing w);
+          own = subst (OfLink c.link) (sym m.same) h.own;
+        };
+        told = g.told;
+      }

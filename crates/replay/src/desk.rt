@@ -1,5 +1,5 @@
 // A desk: an open link together with the slips in hand, those that it has handed out and that are not settled yet.
-ghost use Rattle.std.specs.Prelude.{◌≡◌, ◌+◌, ◌≤◌, [], length, vec_len, vec_capacity, IfOk, MatchResult};
+ghost use Rattle.std.specs.Prelude.{◌≡◌, ◌+◌, ◌≤◌, [], length, vec_len, vec_capacity, IfOk, MatchResult, ◌<◌, OnOk};
 ghost use Rattle.tick_machine.specs.declared.call.Call.TheVariants.{Collect};
 ghost use Rattle.tick_machine.specs.Machine.{Config};
 ghost use Rattle.tick_machine.specs.Life.{settling};
@@ -40,6 +40,7 @@ const UNSETTLED: usize = 1024;
 // Takes the slip of that link number and packet number from those in hand of the link `own`, or says why there is none.
 fn take(own: u64, slips: &mut Vec<Slip>, number: u64, packet: u64) -> Result<Slip, Refusal>
     ensures found { MatchResult result (λ s. Taken own number packet slips.old.items s slips.new.items) (λ e. Missing own number packet slips.old.items e slips.new.items) }
+    ensures fewer { OnOk result (vec_len slips.new < vec_capacity slips.new) }
     ensures room { vec_capacity slips.new ≡ vec_capacity slips.old }
 {
     if number != own {
@@ -48,6 +49,30 @@ fn take(own: u64, slips: &mut Vec<Slip>, number: u64, packet: u64) -> Result<Sli
     match place(slips, packet) {
         Some(i) => Ok(slips.remove(i)),
         None => Err(Refusal::NotOut),
+    }
+}
+
+// The slip of that link number and packet number, of those in hand of the link, is settled so. It asks nothing of the past: a slip that the link refuses,
+// as it never does in a history, stays in hand.
+pub fn settle<W: WaitingLine, S: SlotClock>(
+    link: &mut Link<W, S>,
+    slips: &mut Vec<Slip>,
+    how: Settlement,
+    number: u64,
+    packet: u64,
+) -> Answer
+    ensures answered { Answers W.WaitingLine S.SlotClock (record { link = link.old; slips = slips.old.items }) (settling how number packet) result (record { link = link.new; slips = slips.new.items }) }
+    ensures room { vec_capacity slips.new ≡ vec_capacity slips.old }
+{
+    match take(link.number(), slips, number, packet) {
+        Ok(slip) => match link.settle(slip, how) {
+            Ok(settled) => how.granted(settled),
+            Err((e, slip)) => {
+                slips.push_reserved(slip);
+                Answer::Refused(e)
+            }
+        },
+        Err(e) => Answer::Refused(e),
     }
 }
 
@@ -115,13 +140,7 @@ impl<W: WaitingLine, S: SlotClock> Desk<W, S> {
     pub fn settle(&mut self, how: Settlement, number: u64, packet: u64) -> Answer
         ensures { Answers W.WaitingLine S.SlotClock self.old (settling how number packet) result self.new }
     {
-        match take(self.link.number(), &mut self.slips, number, packet) {
-            Ok(slip) => match self.link.settle(slip, how) {
-                Ok(settled) => how.granted(settled),
-                Err(_refused) => unreachable(),
-            },
-            Err(e) => Answer::Refused(e),
-        }
+        settle(&mut self.link, &mut self.slips, how, number, packet)
     }
 
     // A call of the link.

@@ -12,15 +12,22 @@ use tick_machine::call::Making;
 use tick_machine::refusal::Refusal;
 use waiting_line::line::WaitingLine;
 
-// The weight of session 0, and those of the other sessions; a list of none counts as weight 0.
-fn parts_of(weights: &[u64]) -> (u64, &[u64])
-    ensures first { result.0 ≡ first_weight weights.now }
+// The making, with the first weight, and the weights of the other sessions; a list of none counts as weight 0.
+fn parts_of(number: u64, largest: u64, capacity: u64, weights: &[u64]) -> (Making, &[u64])
+    ensures making { result.0 ≡ record { number = number; largest = largest; capacity = capacity; weight = first_weight weights.now } }
     ensures others { result.1.now ≡ drop 1 weights.now }
 {
-    match weights {
+    let (weight, others) = match weights {
         [first, others @ ..] => (*first, others),
         [] => (0, weights),
-    }
+    };
+    let making = Making {
+        number,
+        largest,
+        capacity,
+        weight,
+    };
+    (making, others)
 }
 
 // One adding after the other, up to the first that is refused.
@@ -43,13 +50,7 @@ pub fn prepare<W: WaitingLine + Drop>(
 ) -> Result<Draft<W>, MakeError>
     ensures { Prepares W.WaitingLine (made number largest capacity (first_weight weights.now)) (drop 1 weights.now) result }
 {
-    let (weight, others) = parts_of(weights);
-    let making = Making {
-        number,
-        largest,
-        capacity,
-        weight,
-    };
+    let (making, others) = parts_of(number, largest, capacity, weights);
     let mut draft = Draft::make(heap, making)?;
     add_all(&mut draft, others)?;
     Ok(draft)

@@ -39,7 +39,7 @@ fn moved<S: SlotClock>(clock: &mut S, ticks: u64, moves: u64) {
     }
 }
 
-// A new clock takes the packets and then moves.
+// A new clock takes the packets and then moves. (Its five numbers come from C one by one.)
 fn work<S: SlotClock + Drop>(
     sessions: u64,
     size: u64,

@@ -6,6 +6,8 @@ ghost use Rattle.tick_machine.specs.Slots.{round_length};
 use crate::session::Session;
 use tick_machine::packet::{Departed, Packet};
 
+// That a draft is of some configuration is asked where it is needed, and is no invariant here: it speaks of what W means, so that this type would have to
+// ask a bound of W, and whoever names the type with it.
 #[derive(Drop)]
 pub struct Draft<W> {
     pub(crate) waiting: W,

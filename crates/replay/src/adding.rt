@@ -8,7 +8,8 @@ use link::draft::Draft;
 use tick_machine::call::Answer;
 use waiting_line::line::WaitingLine;
 
-// Every adding, in order: their answers come after those that are there.
+// Every adding, in order: their answers come after those that are there. (Here, and where calls are answered, the room for them is asked of the vector
+// itself: it differs with the number of answers to come, so that no type can say it.)
 pub fn add_all<W: WaitingLine>(draft: &mut Draft<W>, addings: &[u64], answers: &mut Vec<Answer>)
     requires { vec_len answers.old + length addings.now ≤ vec_capacity answers.old }
     ensures added { (c : Config) → Drafts W.WaitingLine c draft.old → AddedAll W.WaitingLine c addings.now answers.old.items draft.new answers.new.items }

@@ -41,7 +41,8 @@ impl Held {
         })
     }
 
-    // The slot from which a packet's slots are looked for, or why the packet is refused.
+    // The slot from which a packet's slots are looked for, or why the packet is refused. (It and the two arguments go on side by side: as one value they
+    // would still be asked against the clock at each use, since a clock may have changed meanwhile.)
     pub fn room(&self, session: u64, size: u64) -> Result<u64, ClockRefusal>
         ensures { MatchResult result (λ q. Room self.now session size q) (λ e. add_answer (held_state self.now) session size ≡ Err e) }
     {

@@ -40,7 +40,7 @@ fn add_all<W: WaitingLine>(draft: &mut Draft<W>, weights: &[u64]) -> Result<(), 
     Ok(())
 }
 
-// A draft with a session for each weight.
+// A draft with a session for each weight. (Its numbers stand apart, as they come from C.)
 pub fn prepare<W: WaitingLine + Drop>(
     heap: Global,
     number: u64,

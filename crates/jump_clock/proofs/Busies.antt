@@ -5,6 +5,10 @@ use Rattle.tick_machine.specs.Lists.{total, only}
 use Rattle.tick_machine.specs.Slots.{owner}
 use Rattle.tick_machine.proofs.Lists.{only_yes, only_no}
 use Rattle.slot_clock.specs.Walk.{Tops}
+use Rattle.slot_clock.specs.declared.held.Held.{Held}
+use Rattle.slot_clock.specs.Held.{weights_of, next_of}
+use Rattle.slot_clock.specs.Sound.{near}
+use Rattle.slot_clock.specs.Holding.{sound}
 use Rattle.jump_clock.specs.declared.dry.Dry.{Dry}
 use Rattle.jump_clock.specs.Ends.{blank, Ordered}
 use Rattle.jump_clock.specs.Dries.{over_busy, Holds, Traded, Gained, Lost, missed, halfway}
@@ -220,10 +224,15 @@ busy_count xs v next holds = sym (total_ones xs) ∙ holds (λ _. 1) ∙ over_on
     over_ones i (n ∷ ns) = ap (λ x. only (ltb v n) 1 + x) (over_ones (suc i) ns)
 
 -- the first in the heap is the session that runs dry first
-pub firstly : (xs : List Dry) (v : ℕ) (next : List ℕ) → Holds xs v next → Ordered xs → 0 < length xs → Ahead next v (get_or xs 0 blank).session
-firstly xs v next holds ordered l =
+pub firstly : (h : Held) (xs : List Dry) (v : ℕ) → Holds xs v (next_of h) → Ordered xs → 0 < length xs → Ahead (weights_of h) (next_of h) h.layout.slots v (get_or xs 0 blank).session
+firstly h xs v holds ordered l =
+    let next = next_of h in
     let s = stands xs v next holds 0 l in
     record {
+      small = h.small;
+      same = h.same;
+      tops = h.tops;
+      near = near (weights_of h) next h.layout.slots h.cursor h.ticks h.owed (sound h) (get_or xs 0 blank).session;
       known = s.0;
       busy = omega (arith, s.1, s.2);
       first = λ j k u. omega (arith, s.1, leads xs v next holds ordered l j k u);

@@ -1,18 +1,14 @@
 -- A jump: up to the slot in which the first session runs dry, the owed slots are those of the busy sessions. Assumes nothing.
-use Rattle.std.proofs.Common.{◌≡◌, ℕ, suc, ◌+◌, ◌-◌, ◌*◌, ◌%◌, ◌^◌, ◌<◌, ◌≤◌, Bool, true, eqb, ltb, List, length, get_or, sym, ap, ◌∙◌, subst, ⊎_elim, mod-lt, mod-eq_of_lt, mul-le-mul, arith}
+use Rattle.std.proofs.Common.{◌≡◌, ℕ, suc, ◌+◌, ◌-◌, ◌*◌, ◌%◌, ◌^◌, ◌<◌, ◌≤◌, Bool, true, eqb, ltb, List, length, get_or, sym, ap, ◌∙◌, ⊎_elim, mod-lt, mod-eq_of_lt, mul-le-mul, arith}
 use Rattle.std.proofs.lemmas.Bool.{lt-ltb, le-ltb, cases_lt, eqb-true}
 use Rattle.tick_machine.specs.Lists.{count, final, All}
 use Rattle.tick_machine.specs.Slots.{round_length, holder, owner, own_slots}
 use Rattle.tick_machine.proofs.Windows.{owner_there, weight_some, first_round}
 use Rattle.slot_clock.specs.Layout.{counted}
-use Rattle.slot_clock.specs.Walk.{below, due, ticks_cursor, Tops}
+use Rattle.slot_clock.specs.Walk.{below, due, ticks_cursor}
 use Rattle.slot_clock.specs.Counts.{count_rises, count_pass, count_above, count_agree, count_from, count_below}
 use Rattle.slot_clock.specs.Reaches.{stamp_one}
 use Rattle.slot_clock.specs.Walks.{reached, ticks_more, still, greatest_most}
-use Rattle.slot_clock.specs.declared.held.Held.{Held}
-use Rattle.slot_clock.specs.Held.{weights_of, next_of}
-use Rattle.slot_clock.specs.Sound.{near}
-use Rattle.slot_clock.specs.Holding.{sound}
 use Rattle.jump_clock.specs.Jumps.{Ahead}
 
 -- no session is busy
@@ -23,10 +19,7 @@ none_busy ws next left v h = still ws next left v (greatest_most next v h)
 abbrev pub busy : ℕ → List ℕ → ℕ → Bool
 busy v next j = ltb v (get_or next j 0)
 
-module _ (h : Held) (next : List ℕ) (same : next ≡ next_of h) (v at : ℕ) (a : Ahead next v at) where
-  abbrev ws : List ℕ
-  ws = weights_of h
-
+module _ (ws next : List ℕ) (n v at : ℕ) (whole : n ≡ round_length ws) (some : 0 < n) (a : Ahead ws next n v at) where
   abbrev b : ℕ → Bool
   b = counted ws (busy v next)
 
@@ -34,10 +27,10 @@ module _ (h : Held) (next : List ℕ) (same : next ≡ next_of h) (v at : ℕ) (
   end = get_or next at 0
 
   positive : 0 < round_length ws
-  positive = omega (arith, h.layout.whole, h.layout.some)
+  positive = omega (arith, whole, some)
 
   there : (q : ℕ) → owner ws q < length next
-  there q = omega (arith, owner_there ws q positive, ap length same, h.same)
+  there q = omega (arith, owner_there ws q positive, a.same)
 
   agree : (q : ℕ) → v ≤ q → q < end → due ws next q ≡ b q
   agree q l u =
@@ -53,20 +46,19 @@ module _ (h : Held) (next : List ℕ) (same : next ≡ next_of h) (v at : ℕ) (
   end_due : due ws next (end - 1) ≡ true
   end_due =
       let ahead = a.busy in
-      let tops : Tops ws next = subst (Tops ws) (sym same) h.tops in
-      let o : owner ws (end - 1) ≡ at = tops at a.known (omega arith) in
+      let o : owner ws (end - 1) ≡ at = a.tops at a.known (omega arith) in
       lt-ltb (end - 1) (get_or next (owner ws (end - 1)) 0) (omega (arith, ap (λ x. get_or next x 0) o))
 
   -- a round has a slot of a busy session
-  pub busy_hit : 0 < count b h.layout.slots
+  pub busy_hit : 0 < count b n
   busy_hit =
       let s = end - 1 in
       let ahead = a.busy in
       let e : b s ≡ true = sym (agree s (omega arith) (omega arith)) ∙ end_due in
       let m = round_length ws in
       let low : s % m < m = mod-lt s positive in
-      let same : b (s % m) ≡ true = ap (λ x. busy v next (holder ws x)) (mod-eq_of_lt low) ∙ e in
-      omega (arith, count_above b (s % m) m same low, ap (count b) h.layout.whole)
+      let hit : b (s % m) ≡ true = ap (λ x. busy v next (holder ws x)) (mod-eq_of_lt low) ∙ e in
+      omega (arith, count_above b (s % m) m hit low, ap (count b) whole)
 
   pub rises : count b v ≤ count b end
   rises = count_rises b v end (omega (arith, a.busy))
@@ -85,19 +77,19 @@ module _ (h : Held) (next : List ℕ) (same : next ≡ next_of h) (v at : ℕ) (
         let s = end - 1 in
         let ahead = a.busy in
         let f : ℕ → Bool = due ws next in
-        let some = dry_some in
+        let any = dry_some in
         let x : suc s ≡ end = omega arith in
         let back : suc (c - 1) ≡ c = omega arith in
-        let whole : c + (left - c) ≡ left = omega arith in
+        let all : c + (left - c) ≡ left = omega arith in
         let k = counts end (omega arith) (omega arith) in
         let p = count_pass f s end_due in
         let p' = ap (count f) x in
         let r : ticks_cursor ws next c v ≡ end
         = ap (λ n. ticks_cursor ws next n v) (sym back) ∙ reached ws next (c - 1) v s (omega arith) end_due (omega arith) ∙ x in
-        sym (ap (λ n. ticks_cursor ws next n v) (sym whole) ∙ ticks_more ws next c (left - c) v ∙ ap (ticks_cursor ws next (left - c)) r)
+        sym (ap (λ n. ticks_cursor ws next n v) (sym all) ∙ ticks_more ws next c (left - c) v ∙ ap (ticks_cursor ws next (left - c)) r)
 
   -- the ticks end before
-  module _ (left s : ℕ) (some : 1 ≤ left) (fewer : count b v + left < count b end) (mine : b s ≡ true) (rank : count b s ≡ count b v + (left - 1)) where
+  module _ (left s : ℕ) (any : 1 ≤ left) (fewer : count b v + left < count b end) (mine : b s ≡ true) (rank : count b s ≡ count b v + (left - 1)) where
     pub stop_from : v ≤ s
     stop_from = count_from b v s mine (omega arith)
 
@@ -114,13 +106,13 @@ module _ (h : Held) (next : List ℕ) (same : next ≡ next_of h) (v at : ℕ) (
         sym (ap (λ n. ticks_cursor ws next n v) back ∙ reached ws next (left - 1) v s low (agree s low high ∙ mine) (omega arith) ∙ plus)
 
   pub next_near : end ≤ 2 ^ 57
-  next_near = omega (arith, ap (λ xs. get_or xs at 0) same, near ws (next_of h) h.layout.slots h.cursor h.ticks h.owed (sound h) at)
+  next_near = a.near
 
-  pub jump_near : (left : ℕ) → 1 ≤ left → left ≤ 17592186044416 → v + ((left - 1) + 1) * h.layout.slots < 2 ^ 63
-  jump_near left some few =
+  pub jump_near : (left : ℕ) → 1 ≤ left → left ≤ 17592186044416 → v + ((left - 1) + 1) * n < 2 ^ 63
+  jump_near left any few =
       let e : ((left - 1) + 1) ≡ left = omega arith in
-      let m = ap (λ x. x * h.layout.slots) e in
-      omega (arith, m, mul-le-mul few h.small, a.busy, next_near)
+      let m = ap (λ x. x * n) e in
+      omega (arith, m, mul-le-mul few a.small, a.busy, next_near)
 
 -- a stamp in closed form
 pub stamp_done : (ws : List ℕ) (i m q s : ℕ) → All (λ w. 1 ≤ w) ws → i < length ws → 1 ≤ m

@@ -32,7 +32,7 @@ module _ (h : Held) (xs : List Dry) (v : ℕ) (holds : Holds xs v (next_of h)) (
   -- the first has run dry
   pub dry_missed : (to : ℕ) → to ≡ first.end → missed to (next_of h) ≡ 0
   dry_missed to e =
-      missed_none to (next_of h) first.session (firstly xs v (next_of h) holds ordered some).known (sym (first_end xs v (next_of h) holds some) ∙ sym e)
+      missed_none to (next_of h) first.session (firstly h xs v holds ordered some).known (sym (first_end xs v (next_of h) holds some) ∙ sym e)
 
   pub dry_turned : (ys : List Dry) (to : ℕ) → to ≡ first.end → Lost xs first ys → length ys + 1 ≡ length xs → Turned xs ys to (next_of h)
   dry_turned ys to e lost count = record {
@@ -48,7 +48,7 @@ module _ (h : Held) (xs : List Dry) (v : ℕ) (holds : Holds xs v (next_of h)) (
     pub stop_turned : Turned xs xs to (next_of h)
     stop_turned =
         let next = next_of h in
-        let f = firstly xs v next holds ordered some in
+        let f = firstly h xs v holds ordered some in
         let none : missed to next ≡ 1
         = missed_all to next
         (λ j k e. ⊎_elim (λ (u : v < get_or next j 0). omega (arith, stop_short, f.first j k u)) (λ (u : get_or next j 0 ≤ v). omega arith) (cases_lt v (get_or next j 0))) in

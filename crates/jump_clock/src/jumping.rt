@@ -3,31 +3,31 @@ ghost use Rattle.std.specs.Prelude.{◌≡◌, ◌+◌, ◌-◌, ◌<◌, ◌≤
 ghost use Rattle.tick_machine.specs.Lists.{final};
 ghost use Rattle.tick_machine.specs.Slots.{own_slots};
 ghost use Rattle.slot_clock.specs.Walk.{ticks_cursor};
-ghost use Rattle.slot_clock.specs.Held.{weights_of, next_of, Room};
+ghost use Rattle.slot_clock.specs.Held.{weights_of, Room};
 ghost use Rattle.jump_clock.specs.Jumps.{Ahead};
 
 use slot_clock::held::Held;
+use slot_clock::layout::Layout;
 
 // V and the ticks that are left, once V has come to one past the slot in which the session `at` runs dry, or the ticks are spent.
-pub fn jump(held: &Held, v: u64, at: usize, left: u64) -> (u64, u64)
-    requires ahead { Ahead (next_of held.now) v at }
+pub fn jump(layout: &Layout<64>, next: &[u64], v: u64, at: usize, left: u64) -> (u64, u64)
+    requires ahead { Ahead layout.now.weights.items next.now layout.now.slots v at }
     requires ticks { 1 ≤ left }
     requires few { left ≤ 17592186044416 }
-    ensures goes { ticks_cursor (weights_of held.now) (next_of held.now) result.1 result.0 ≡ ticks_cursor (weights_of held.now) (next_of held.now) left v }
+    ensures goes { ticks_cursor layout.now.weights.items next.now result.1 result.0 ≡ ticks_cursor layout.now.weights.items next.now left v }
     ensures less { result.1 < left }
-    ensures within { result.0 ≤ slice_index (next_of held.now) at }
+    ensures within { result.0 ≤ slice_index next.now at }
     ensures ahead { v < result.0 }
-    ensures dry { 1 ≤ result.1 → result.0 ≡ slice_index (next_of held.now) at }
+    ensures dry { 1 ≤ result.1 → result.0 ≡ slice_index next.now at }
 {
-    let next = held.nexts();
     let end = next[at];
     let busy = move |session: usize| v < next[session];
-    let before = held.layout.rank(&busy, v);
-    let through = held.layout.rank(&busy, end) - before;
+    let before = layout.rank(&busy, v);
+    let through = layout.rank(&busy, end) - before;
     if through <= left {
         (end, left - through)
     } else {
-        (held.layout.slot_from(&busy, v, left - 1) + 1, 0)
+        (layout.slot_from(&busy, v, left - 1) + 1, 0)
     }
 }
 

@@ -11,7 +11,7 @@ pub struct Dry {
     pub session: usize,
 }
 
-// The busy sessions, as a heap.
+// The busy sessions, as a heap. (Not heap_order's `Heap`, which lies in memory that is asked for: a clock asks for none.)
 #[derive(Drop)]
 pub struct Busy {
     pub places: ArrayVec<Dry, 64>,

@@ -5,7 +5,8 @@ ghost use Rattle.tick_machine.specs.Life.{granted as granted_of};
 use crate::packet::SlipCopy;
 use crate::refusal::Refusal;
 
-// A call of an open link. A settlement names the slip by its link number and its packet number.
+// A call of an open link. A settlement names the slip by its link number and its packet number. (Their numbers stand side by side, here and where a call
+// is taken apart, as a line of a history and the rules have them.)
 #[derive(Clone, Copy, PartialEq, Eq, Debug)]
 pub enum Call {
     // session, length, tag

@@ -4,6 +4,7 @@ use Rattle.std.proofs.lemmas.Bool.{lt-ltb, le-ltb, eqb-true, eq-eqb, ne_eqb, and
 use Rattle.tick_machine.specs.Lists.{total, only}
 use Rattle.tick_machine.specs.Slots.{owner}
 use Rattle.tick_machine.proofs.Lists.{only_yes, only_no}
+use Rattle.tick_machine.proofs.Places.{total_ones}
 use Rattle.slot_clock.specs.Walk.{Tops}
 use Rattle.slot_clock.specs.declared.held.Held.{Held}
 use Rattle.slot_clock.specs.Held.{weights_of, next_of}
@@ -207,10 +208,6 @@ over_fewer v i zero (n ∷ ns) l a = omega (arith, only_no (ltb v n) 1 (le-ltb v
 over_fewer v i (suc j) (n ∷ ns) l a =
     let ih = over_fewer v (suc i) j ns (omega arith) a in
     ⊎_elim (λ (a : v < n). omega (arith, only_yes (ltb v n) 1 (lt-ltb v n a))) (λ (a : n ≤ v). omega (arith, only_no (ltb v n) 1 (le-ltb v n a))) (cases_lt v n)
-
-total_ones : (xs : List Dry) → total (λ _. 1) xs ≡ length xs
-total_ones [] = refl
-total_ones (x ∷ xs) = omega (arith, total_ones xs)
 
 pub fewer : (xs : List Dry) (v : ℕ) (next : List ℕ) (i : ℕ) → Holds xs v next → i < length next → get_or next i 0 ≤ v → length xs < length next
 fewer xs v next i holds l a = omega (arith, total_ones xs, holds (λ _. 1), over_fewer v 0 i next l a)

@@ -6,6 +6,7 @@ use Rattle.std.proofs.lemmas.List.{get_or_default}
 use Rattle.std.proofs.lemmas.List.Sums.{sum_by-cons}
 use Rattle.std.proofs.lemmas.List.Sorted.{sum_by-IsPermutation}
 use Rattle.tick_machine.specs.Lists.{total}
+use Rattle.tick_machine.proofs.Places.{total_push}
 use Rattle.heap_order.specs.Heaps.{parent, Heavy}
 use Rattle.std.specs.List.{swap_remove}
 use Rattle.heap_order.proofs.Changes.{taken}
@@ -49,10 +50,6 @@ total_sum f (x ∷ xs) = omega (arith, sum_by-cons f x xs, total_sum f xs)
 
 total_shuffled : (f : Dry → ℕ) (xs ys : List Dry) → IsPermutation xs ys → total f xs ≡ total f ys
 total_shuffled f xs ys h = omega (arith, total_sum f xs, total_sum f ys, sum_by-IsPermutation f xs ys h)
-
-total_push : (f : Dry → ℕ) (xs : List Dry) (t : Dry) → total f (xs ++ t ∷ []) ≡ total f xs + f t
-total_push f [] t = omega arith
-total_push f (x ∷ xs) t = omega (arith, total_push f xs t)
 
 total_set : (f : Dry → ℕ) (xs : List Dry) (j : ℕ) (t : Dry) → j < length xs → total f (set xs j t) + f (get_or xs j blank) ≡ total f xs + f t
 total_set f [] j t l = absurd (omega arith)

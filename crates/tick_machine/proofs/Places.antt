@@ -13,7 +13,7 @@ pub total_push : {X : Type 0} (f : X → ℕ) (xs : List X) (x : X) → total f 
 total_push f [] x = omega arith
 total_push f (y ∷ ys) x = omega (arith, total_push f ys x)
 
-total_ones : {X : Type 0} (xs : List X) → total (λ (x : X). 1) xs ≡ length xs
+pub total_ones : {X : Type 0} (xs : List X) → total (λ (x : X). 1) xs ≡ length xs
 total_ones [] = refl
 total_ones (x ∷ xs) = omega (arith, total_ones xs)
 

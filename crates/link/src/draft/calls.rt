@@ -7,10 +7,11 @@ ghost use Rattle.link.specs.Drafting.{Drafts, Makes, Added, Unchanged, Opens};
 
 use super::Draft;
 use crate::error::MakeError;
-use crate::limits::{HEAVIEST, SESSIONS, UNSETTLED};
+use crate::limits::{HEAVIEST, LAST_LINK, LONGEST, ROOMIEST, SESSIONS, UNSETTLED};
 use crate::link::Link;
 use slot_clock::clock::SlotClock;
 use std::alloc::Global;
+use std::collections::VecDeque;
 use tick_machine::call::Making;
 use tick_machine::refusal::Refusal;
 use waiting_line::line::WaitingLine;
@@ -19,13 +20,13 @@ use waiting_line::line::WaitingLine;
 fn check(making: Making) -> Result<(), Refusal>
     ensures { result ≡ checked (made_of making.number making.largest making.capacity making.weight) }
 {
-    if making.number > 65_535 {
+    if making.number > LAST_LINK {
         return Err(Refusal::LinkNumber);
     }
-    if making.largest == 0 || making.largest > 65_535 {
+    if making.largest == 0 || making.largest > LONGEST {
         return Err(Refusal::Largest);
     }
-    if making.capacity == 0 || making.capacity > 1_024 {
+    if making.capacity == 0 || making.capacity > ROOMIEST {
         return Err(Refusal::Capacity);
     }
     if making.weight == 0 || making.weight > HEAVIEST {
@@ -46,7 +47,7 @@ impl<W: WaitingLine> Draft<W> {
         let mut weights = Vec::with_capacity(heap, SESSIONS)?;
         let sessions = Vec::with_capacity(heap, SESSIONS)?;
         let table = Vec::with_capacity(heap, UNSETTLED)?;
-        let left = Vec::with_capacity(heap, UNSETTLED)?;
+        let left = VecDeque::with_capacity(heap, UNSETTLED)?;
         let out = Vec::with_capacity(heap, UNSETTLED)?;
         weights.push_reserved(making.weight);
         Ok(Draft {

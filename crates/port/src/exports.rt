@@ -4,7 +4,7 @@ ghost use Rattle.tick_machine.specs.Machine.{Config};
 ghost use Rattle.tick_machine.specs.Life.{made};
 ghost use Rattle.link.specs.Drafting.{Drafts};
 ghost use Rattle.port.specs.Preparing.{first_weight};
-ghost use Rattle.port.specs.Playing.{Plays, Reports};
+ghost use Rattle.port.specs.Playing.{Plays, Reports, number_of};
 
 use crate::preparing::prepare;
 use crate::records::{AnswerRecord, CallRecord};
@@ -39,6 +39,23 @@ fn play<W: WaitingLine + Drop, S: SlotClock + Drop>(
     Ok(())
 }
 
+// A whole history, from the making on.
+fn prepare_and_play<W: WaitingLine + Drop, S: SlotClock + Drop>(
+    heap: Global,
+    number: u64,
+    largest: u64,
+    capacity: u64,
+    weights: &[u64],
+    calls: &[CallRecord],
+    answers: &mut [AnswerRecord],
+) -> Result<(), MakeError>
+    ensures { Reports (made number largest capacity (first_weight weights.now)) (drop 1 weights.now) calls.now answers.old answers.new (number_of result) }
+{
+    let draft = prepare(heap, number, largest, capacity, weights)?;
+    play::<W, S>(heap, draft, calls, answers)?;
+    Ok(())
+}
+
 // Opens the draft and says so, answers calls for as long as they come, and returns the slips that are left over.
 fn open_and_serve<W: WaitingLine + Drop, S: SlotClock + Drop>(
     heap: Global,
@@ -70,14 +87,11 @@ pub extern "C" fn fudlexo_play(
 ) -> u64
     ensures { Reports (made number largest capacity (first_weight weights.now)) (drop 1 weights.now) calls.now answers.old answers.new result }
 {
-    let prepared: Result<Draft<HeapLine>, MakeError> = prepare(
-        heap, number, largest, capacity, weights,
+    let played = prepare_and_play::<HeapLine, JumpClock>(
+        heap, number, largest, capacity, weights, calls, answers,
     );
-    match prepared {
-        Ok(draft) => match play::<HeapLine, JumpClock>(heap, draft, calls, answers) {
-            Ok(()) => 0,
-            Err(AllocError) => NO_MEMORY,
-        },
+    match played {
+        Ok(()) => 0,
         Err(MakeError::Refused(e)) => e.number(),
         Err(MakeError::NoMemory(_)) => NO_MEMORY,
     }

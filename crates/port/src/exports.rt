@@ -56,18 +56,26 @@ fn prepare_and_play<W: WaitingLine + Drop, S: SlotClock + Drop>(
     Ok(())
 }
 
-// Opens the draft and says so, answers calls for as long as they come, and returns the slips that are left over.
-fn open_and_serve<W: WaitingLine + Drop, S: SlotClock + Drop>(
+// The open link of what is made and added, and the number of slots in its round.
+fn prepare_and_open<W: WaitingLine + Drop, S: SlotClock + Drop>(
     heap: Global,
-    draft: Draft<W>,
+    number: u64,
+    largest: u64,
+    capacity: u64,
+    weights: &[u64],
+) -> Result<(Desk<W, S>, u64), MakeError> {
+    let draft = prepare(heap, number, largest, capacity, weights)?;
+    let opened = Desk::<W, S>::open(heap, draft)?;
+    Ok(opened)
+}
+
+// Says that the link is open, answers calls for as long as they come, and returns the slips that are left over.
+fn serve_opened<W: WaitingLine + Drop, S: SlotClock + Drop>(
+    mut desk: Desk<W, S>,
+    round: u64,
     requests: i32,
     answers: i32,
-) -> Result<(), Unwritten>
-    requires { (c : Config) × Drafts W.WaitingLine c draft }
-{
-    let Ok((mut desk, round)) = Desk::<W, S>::open(heap, draft) else {
-        return write_answer(answers, AnswerRecord::no_memory());
-    };
+) -> Result<(), Unwritten> {
     let heard = write_answer(answers, Answer::Opened(round).into());
     let _ = serve(&mut desk, requests, answers);
     desk.close();
@@ -108,11 +116,9 @@ pub extern "C" fn fudlexo_serve(
     capacity: u64,
     weights: &[u64],
 ) -> u64 {
-    let prepared: Result<Draft<HeapLine>, MakeError> = prepare(
-        heap, number, largest, capacity, weights,
-    );
-    let heard = match prepared {
-        Ok(draft) => open_and_serve::<HeapLine, JumpClock>(heap, draft, requests, answers),
+    let opened = prepare_and_open::<HeapLine, JumpClock>(heap, number, largest, capacity, weights);
+    let heard = match opened {
+        Ok((desk, round)) => serve_opened(desk, round, requests, answers),
         Err(MakeError::Refused(e)) => write_answer(answers, e.into()),
         Err(MakeError::NoMemory(_)) => write_answer(answers, AnswerRecord::no_memory()),
     };

@@ -5,6 +5,8 @@ use Rattle.tick_machine.specs.declared.refusal.Refusal.{Refusal}
 use Rattle.tick_machine.specs.Refusals.{outer}
 use Rattle.tick_machine.specs.Machine.{Config}
 use Rattle.tick_machine.specs.Law.{Lawful}
+use Rattle.link.specs.declared.error.MakeError.{MakeError}
+use Rattle.link.specs.declared.error.MakeError.TheVariants.{Refused, NoMemory}
 use Rattle.port.specs.declared.records.CallRecord.{CallRecord}
 use Rattle.port.specs.declared.records.AnswerRecord.{AnswerRecord}
 use Rattle.port.specs.Preparing.{all_added}
@@ -24,6 +26,12 @@ pub record Played (c : Config) (calls : List CallRecord) (was said : List Answer
 abbrev pub Plays : Config → List CallRecord → List AnswerRecord → List AnswerRecord → Result (Unit {0}) AllocError → Type 0
 Plays c calls was said (Ok u) = Played c calls was said
 Plays c calls was said (Err e) = said ≡ was
+
+-- the number that C is told
+abbrev pub number_of : Result (Unit {0}) MakeError → ℕ
+number_of (Ok u) = 0
+number_of (Err (Refused e)) = outer e
+number_of (Err (NoMemory e)) = 1
 
 -- what C is told of what was made, once all weights are added: 0 if the history was played; 1 for want of memory, or the number of the refusal of an
 -- adding, and then nothing was written

@@ -6,28 +6,35 @@ use crate::records::{AnswerRecord, CallRecord};
 use byteorder::{ByteOrder, LittleEndian};
 
 // A call's four numbers.
-pub fn call_from(bytes: &[u8; 32]) -> CallRecord
-    ensures { result ≡ call_from bytes.now }
-{
-    let mut words = [0; 4];
-    LittleEndian::read_u64_into(bytes, &mut words);
-    let [kind, a, b, c] = words;
-    CallRecord { kind, a, b, c }
+impl From<&[u8; 32]> for CallRecord {
+    ghost from_gives = { λ bytes r. r ≡ call_from bytes.now };
+
+    fn from(bytes: &[u8; 32]) -> CallRecord {
+        let mut words = [0; 4];
+        LittleEndian::read_u64_into(bytes, &mut words);
+        let [kind, a, b, c] = words;
+        CallRecord { kind, a, b, c }
+    }
 }
 
 // An answer's nine numbers; a negative lead is told by its two's complement.
-fn words_of(said: AnswerRecord) -> [u64; 9]
-    ensures { result ≡ words_of said }
-{
-    let [a, b, c, d, e, f, g] = said.values;
-    [said.kind, said.lead.cast_unsigned(), a, b, c, d, e, f, g]
+impl From<AnswerRecord> for [u64; 9] {
+    ghost from_gives = { λ said r. r ≡ words_of said };
+
+    fn from(said: AnswerRecord) -> [u64; 9] {
+        let [a, b, c, d, e, f, g] = said.values;
+        [said.kind, said.lead.cast_unsigned(), a, b, c, d, e, f, g]
+    }
 }
 
 // The bytes of an answer.
-pub fn answer_bytes(said: AnswerRecord) -> [u8; 72]
-    ensures { result ≡ all_bytes (words_of said) }
-{
-    let mut bytes = [0; 72];
-    LittleEndian::write_u64_into(&words_of(said), &mut bytes);
-    bytes
+impl From<AnswerRecord> for [u8; 72] {
+    ghost from_gives = { λ said r. r ≡ all_bytes (words_of said) };
+
+    fn from(said: AnswerRecord) -> [u8; 72] {
+        let words: [u64; 9] = said.into();
+        let mut bytes = [0; 72];
+        LittleEndian::write_u64_into(&words, &mut bytes);
+        bytes
+    }
 }

@@ -4,7 +4,7 @@ ghost use Rattle.tick_machine.specs.Machine.{Config};
 ghost use Rattle.tick_machine.specs.Life.{made};
 ghost use Rattle.link.specs.Drafting.{Drafts};
 ghost use Rattle.port.specs.Preparing.{first_weight};
-ghost use Rattle.port.specs.Playing.{Plays, Reports};
+ghost use Rattle.port.specs.Playing.{Plays, Reports, number_of};
 
 use crate::preparing::prepare;
 use crate::records::{AnswerRecord, CallRecord};
@@ -39,18 +39,43 @@ fn play<W: WaitingLine + Drop, S: SlotClock + Drop>(
     Ok(())
 }
 
-// Opens the draft and says so, answers calls for as long as they come, and returns the slips that are left over.
-fn open_and_serve<W: WaitingLine + Drop, S: SlotClock + Drop>(
+// A whole history, from the making on.
+fn prepare_and_play<W: WaitingLine + Drop, S: SlotClock + Drop>(
     heap: Global,
-    draft: Draft<W>,
+    number: u64,
+    largest: u64,
+    capacity: u64,
+    weights: &[u64],
+    calls: &[CallRecord],
+    answers: &mut [AnswerRecord],
+) -> Result<(), MakeError>
+    ensures { Reports (made number largest capacity (first_weight weights.now)) (drop 1 weights.now) calls.now answers.old answers.new (number_of result) }
+{
+    let draft = prepare(heap, number, largest, capacity, weights)?;
+    play::<W, S>(heap, draft, calls, answers)?;
+    Ok(())
+}
+
+// The open link of what is made and added, and the number of slots in its round.
+fn prepare_and_open<W: WaitingLine + Drop, S: SlotClock + Drop>(
+    heap: Global,
+    number: u64,
+    largest: u64,
+    capacity: u64,
+    weights: &[u64],
+) -> Result<(Desk<W, S>, u64), MakeError> {
+    let draft = prepare(heap, number, largest, capacity, weights)?;
+    let opened = Desk::<W, S>::open(heap, draft)?;
+    Ok(opened)
+}
+
+// Says that the link is open, answers calls for as long as they come, and returns the slips that are left over.
+fn serve_opened<W: WaitingLine + Drop, S: SlotClock + Drop>(
+    mut desk: Desk<W, S>,
+    round: u64,
     requests: i32,
     answers: i32,
-) -> Result<(), Unwritten>
-    requires { (c : Config) × Drafts W.WaitingLine c draft }
-{
-    let Ok((mut desk, round)) = Desk::<W, S>::open(heap, draft) else {
-        return write_answer(answers, AnswerRecord::no_memory());
-    };
+) -> Result<(), Unwritten> {
     let heard = write_answer(answers, Answer::Opened(round).into());
     let _ = serve(&mut desk, requests, answers);
     desk.close();
@@ -70,14 +95,11 @@ pub extern "C" fn fudlexo_play(
 ) -> u64
     ensures { Reports (made number largest capacity (first_weight weights.now)) (drop 1 weights.now) calls.now answers.old answers.new result }
 {
-    let prepared: Result<Draft<HeapLine>, MakeError> = prepare(
-        heap, number, largest, capacity, weights,
+    let played = prepare_and_play::<HeapLine, JumpClock>(
+        heap, number, largest, capacity, weights, calls, answers,
     );
-    match prepared {
-        Ok(draft) => match play::<HeapLine, JumpClock>(heap, draft, calls, answers) {
-            Ok(()) => 0,
-            Err(AllocError) => NO_MEMORY,
-        },
+    match played {
+        Ok(()) => 0,
         Err(MakeError::Refused(e)) => e.number(),
         Err(MakeError::NoMemory(_)) => NO_MEMORY,
     }
@@ -94,11 +116,9 @@ pub extern "C" fn fudlexo_serve(
     capacity: u64,
     weights: &[u64],
 ) -> u64 {
-    let prepared: Result<Draft<HeapLine>, MakeError> = prepare(
-        heap, number, largest, capacity, weights,
-    );
-    let heard = match prepared {
-        Ok(draft) => open_and_serve::<HeapLine, JumpClock>(heap, draft, requests, answers),
+    let opened = prepare_and_open::<HeapLine, JumpClock>(heap, number, largest, capacity, weights);
+    let heard = match opened {
+        Ok((desk, round)) => serve_opened(desk, round, requests, answers),
         Err(MakeError::Refused(e)) => write_answer(answers, e.into()),
         Err(MakeError::NoMemory(_)) => write_answer(answers, AnswerRecord::no_memory()),
     };

@@ -1,5 +1,4 @@
 // Calls that come one by one by a descriptor.
-use crate::bytes::{answer_bytes, call_from};
 use crate::records::{AnswerRecord, CallRecord};
 use crate::turns::turn;
 use replay::desk::Desk;
@@ -16,12 +15,13 @@ fn read_call(requests: i32) -> Option<CallRecord> {
     if io::read_full(requests, &mut bytes) < 32 {
         return None;
     }
-    Some(call_from(&bytes))
+    Some(CallRecord::from(&bytes))
 }
 
 // Writes the whole answer.
 pub fn write_answer(answers: i32, said: AnswerRecord) -> Result<(), Unwritten> {
-    if io::write_all(answers, &answer_bytes(said)) {
+    let bytes: [u8; 72] = said.into();
+    if io::write_all(answers, &bytes) {
         Ok(())
     } else {
         Err(Unwritten)

@@ -15,14 +15,14 @@ mod tests {
     use slot_clock::clock::SlotClock;
     use slot_clock::refusal::ClockRefusal;
     use slot_clock::step::StepClock;
+    use std::array;
     use std::process::Abort;
     use std::test::Fail;
 
-    static SIXTY_FOUR: [u64; 64] = [
-        1, 2, 3, 4, 5, 6, 7, 8, 9, 10, 11, 12, 13, 14, 15, 16, 17, 18, 19, 20, 21, 22, 23, 24, 25,
-        26, 27, 28, 29, 30, 31, 32, 33, 34, 35, 36, 37, 38, 39, 40, 41, 42, 43, 44, 45, 46, 47, 48,
-        49, 50, 51, 52, 53, 54, 55, 56, 57, 58, 59, 60, 61, 62, 63, 64,
-    ];
+    // Session i has the weight i + 1.
+    fn sixty_four() -> [u64; 64] {
+        array::from_fn(|i| i as u64 + 1)
+    }
 
     fn both(rt: &impl Abort, weights: &[u64], steps: &[Step]) -> Result<(), Fail> {
         follow::<StepClock>(rt, weights, steps)?;
@@ -109,7 +109,7 @@ mod tests {
 
     #[test]
     fn sixty_four_sessions(rt: HostRuntime) -> Result<(), Fail> {
-        both(&rt, &SIXTY_FOUR, &tables::SIXTY_FOUR_SESSIONS)
+        both(&rt, &sixty_four(), &tables::SIXTY_FOUR_SESSIONS)
     }
 
     // A jump for each session that runs dry, and one more if the last slot served was not its session's last.
@@ -139,6 +139,6 @@ mod tests {
 
     #[test]
     fn side_by_side_many(rt: HostRuntime) -> Result<(), Fail> {
-        compared::<StepClock, JumpClock>(&rt, &SIXTY_FOUR, 3, 150)
+        compared::<StepClock, JumpClock>(&rt, &sixty_four(), 3, 150)
     }
 }

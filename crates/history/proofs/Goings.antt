@@ -1,11 +1,13 @@
 -- A turn at an open link. Assumes nothing.
-use Rattle.std.proofs.Common.{◌≡◌, ℕ, ◌∷◌, Some, None, Option, sym, ap, ◌∙◌, subst}
+use Rattle.std.proofs.Common.{◌≡◌, ℕ, ◌-◌, cond, eqb, List, ◌∷◌, Some, None, Ok, Err, Option, refl, sym, ap, ◌∙◌, subst}
+use Rattle.tick_machine.specs.declared.refusal.Refusal.TheVariants.{OtherLink, NotOut}
 use Rattle.tick_machine.specs.declared.packet.SlipCopy.{SlipCopy}
 use Rattle.tick_machine.specs.declared.call.Call.{Call}
 use Rattle.tick_machine.specs.declared.call.Call.TheVariants as call
 use Rattle.tick_machine.specs.declared.call.Answer.{Answer}
+use Rattle.tick_machine.specs.Desk.{among}
 use Rattle.tick_machine.specs.Machine.{Config, Machine}
-use Rattle.tick_machine.specs.Life.{after, settlement, respond}
+use Rattle.tick_machine.specs.Life.{after, move, respond}
 use Rattle.waiting_line.specs.declared.line.WaitingLine.{Ghosts as WaitingLine}
 use Rattle.slot_clock.specs.declared.clock.SlotClock.{Ghosts as SlotClock}
 use Rattle.link.specs.declared.slip.Slip.{Slip}
@@ -17,17 +19,17 @@ use Rattle.history_reply.specs.declared.replies.Reply.TheVariants as reply
 use Rattle.history_reply.specs.Stages.{Stage, running, calling, obey, slip_in}
 use Rattle.history.specs.declared.clerk.OpenLink.{OpenLink}
 use Rattle.history.specs.Standing.{copied, Out, AtLink, Went}
-use Rattle.history.proofs.Outs.{slip_is_out, move_settles_nothing}
+use Rattle.link.proofs.Outs.{settled_last, move_out}
 
--- a slip stays out where settlements stay the same
-pub out_kept : (c : Config) (m m' : Machine) (o : Option SlipCopy) → ((link number : ℕ) → settlement c link number m' ≡ settlement c link number m) → Out c m o → Out c m' o
+-- a slip stays out where the same packets are out
+out_kept : (c : Config) (m m' : Machine) (o : Option SlipCopy) → m'.desk.out ≡ m.desk.out → Out c m o → Out c m' o
 out_kept c m m' None same h = tt
-out_kept c m m' (Some s) same h = same s.link s.packet ∙ h
+out_kept c m m' (Some s) same h = ap (λ (xs : List ℕ). cond (eqb s.link c.link) (cond (among s.packet xs) (Ok s.packet) (Err NotOut)) (Err OtherLink)) same ∙ h
 
 -- a slip just handed out is out
 out_taken : (c : Config) (m : Machine) (o : Option SlipCopy) → o ≡ slip_in (respond c m call.Collect).1 → Out c (respond c m call.Collect).0 o
 out_taken c m None e = tt
-out_taken c m (Some s) e = slip_is_out c m s e
+out_taken c m (Some s) e = settled_last c m.desk.left m.desk.out s (respond c m call.Collect).0 e refl
 
 module _ {W S : Type 0} (line : WaitingLine W) (clock : SlotClock S) where
   -- a call after those that led here
@@ -62,6 +64,6 @@ module _ {W S : Type 0} (line : WaitingLine W) (clock : SlotClock S) where
       let c = k.config in
       let m = after k.config k.calls in
       let h = ap copied (sym same) in
-      let out = out_kept c m (respond c m (call.MoveTo t)).0 (copied o.hand) (move_settles_nothing c m t) k.out in
+      let out = out_kept c m (respond c m (call.MoveTo t)).0 (copied o.hand) (move_out c m (move c t m) (t - m.clock)) k.out in
       let w = at_stage n (command.MoveTo t) s _ _ _ k.is (goes_on s o o' (call.MoveTo t) a b _ k e keeps h (subst (Out c (respond c m (call.MoveTo t)).0) h out)) in
       subst (λ (y : Command). Went (AtLink line clock) (obey n s y) o' (reply.Answer b)) (sym is) w

@@ -1,2 +1,1 @@
-pub mod Outs
 pub mod Goings

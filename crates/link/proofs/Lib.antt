@@ -12,3 +12,4 @@ pub mod Slips
 pub mod Readings
 pub mod Drafts
 pub mod Openings
+pub mod Outs

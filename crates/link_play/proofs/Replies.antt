@@ -1,5 +1,6 @@
 -- Playing one after another gives what all are answered. Assumes nothing.
-use Rattle.std.proofs.Common.{◌≡◌, ℕ, suc, ◌+◌, ◌<◌, List, [], ◌∷◌, ◌++◌, length, get_or, drop, Some, Option, sym, ap, ◌∙◌, subst, append_assoc, append-nil, arith, drop-cons}
+use Rattle.std.proofs.Common.{◌≡◌, ℕ, ◌+◌, ◌<◌, List, [], ◌∷◌, ◌++◌, length, get_or, drop, Some, Option, sym, ap, ◌∙◌, subst, append_assoc, append-nil}
+use Rattle.std.proofs.lemmas.List.{drop_more}
 use Rattle.waiting_line.specs.declared.line.WaitingLine.{Ghosts as WaitingLine}
 use Rattle.slot_clock.specs.declared.clock.SlotClock.{Ghosts as SlotClock}
 use Rattle.tick_machine.specs.declared.call.Call.{Call}
@@ -14,9 +15,6 @@ use Rattle.replay.specs.Hand.{InHand, Held, Answered}
 use Rattle.link_play.specs.declared.step.Step.{Step}
 use Rattle.link_play.specs.Plays.{next_slip, spending, calls_of, replies, Spent, Played, Playing}
 
-next : {A : Type 0} (xs : List A) (i : ℕ) (d : A) → i < length xs → drop i xs ≡ get_or xs i d ∷ drop (i + 1) xs
-next xs i d h = let s : suc i ≡ i + 1 = omega arith in drop-cons xs i d h ∙ (λ k. get_or xs i d ∷ drop (s k) xs)
-
 put_behind : (before behind : List Answer) (x y : Answer) (rest whole : List Answer) → behind ≡ before ++ x ∷ [] → x ≡ y → before ++ y ∷ rest ≡ whole → behind ++ rest ≡ whole
 put_behind before behind x y rest whole e f w = ap (λ (zs : List Answer). zs ++ rest) e ∙ append_assoc before (x ∷ []) rest ∙ ap (λ (z : Answer). before ++ z ∷ rest) f ∙ w
 
@@ -25,7 +23,7 @@ module _ {W S : Type 0} {line : WaitingLine W} {clock : SlotClock S} {c : Config
   step_played steps i z before behind behind' d d' said h a p e = record {
     since = calls_of c (after c a.since) (get_or steps i z) ++ a.since;
     held = p.held;
-    tells = put_behind behind behind' said _ _ _ e p.told (ap (λ (ss : List Step). behind ++ replies c a.since ss) (sym (next steps i z h)) ∙ a.tells);
+    tells = put_behind behind behind' said _ _ _ e p.told (ap (λ (ss : List Step). behind ++ replies c a.since ss) (sym (drop_more steps i z h)) ∙ a.tells);
   }
 
   pub all_played : (steps rest : List Step) (before behind : List Answer) (d : InHand W S) → rest ≡ [] → Playing line clock c calls steps before rest behind d → behind ≡ before ++ replies c calls steps

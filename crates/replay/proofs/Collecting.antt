@@ -9,28 +9,19 @@ use Rattle.tick_machine.specs.declared.packet.SlipCopy.{SlipCopy}
 use Rattle.tick_machine.specs.declared.call.Call.{Call}
 use Rattle.tick_machine.specs.declared.call.Call.TheVariants.{Collect}
 use Rattle.tick_machine.specs.declared.call.Answer.TheVariants.{Collected}
-use Rattle.tick_machine.specs.Desk.{first, handed, slip}
+use Rattle.tick_machine.specs.Desk.{first, handed}
 use Rattle.tick_machine.specs.Machine.{Config}
 use Rattle.tick_machine.specs.Life.{slip_of, after}
 use Rattle.link.specs.declared.link.Link.{Link}
 use Rattle.link.specs.declared.slip.Slip.{Slip}
 use Rattle.link.specs.Promise.{Goes, collected_as}
+use Rattle.link.proofs.Outs.{Said, said_one}
 use Rattle.link.proofs.Reached.{reached_small}
 use Rattle.replay.specs.History.{packets, OfLink}
 use Rattle.replay.specs.Hand.{Held, Answered}
 use Rattle.replay.proofs.Hands.{all_push}
 
--- the slip that is said is of the first of the left list
-record Said (link : ℕ) (ds : List Departed) (out : List ℕ) (says : SlipCopy) : Type 0 where
-  handed_is : handed ds out ≡ out ++ says.packet ∷ []
-  link_is : says.link ≡ link
-
-said_one : (link : ℕ) (ds : List Departed) (out : List ℕ) (says : SlipCopy) → Collected (Some says) ≡ Collected (slip_of link (first ds)) → Said link ds out says
-said_one link [] out says e = let z : ◌≡◌ {A = ℕ} 0 1 = cc in absurd (omega arith)
-said_one link (d ∷ ds) out says e =
-    let q : says ≡ slip link d = cc in
-    record { handed_is = ap (λ (x : SlipCopy). out ++ x.packet ∷ []) (sym q); link_is = ap (λ (x : SlipCopy). x.link) q }
-
+-- nothing is handed out where no slip is said
 said_none : (link : ℕ) (ds : List Departed) (out : List ℕ) → Collected None ≡ Collected (slip_of link (first ds)) → handed ds out ≡ out
 said_none link [] out e = refl
 said_none link (d ∷ ds) out e = let z : ◌≡◌ {A = ℕ} 0 1 = cc in absurd (omega arith)
@@ -45,7 +36,9 @@ module _ {W S : Type 0} {line : WaitingLine W} {clock : SlotClock S} {c : Config
 
   module _ {l' : Link W S} (s : Slip) (g : Goes line clock c calls l Collect (collected_as (Some s)) l') where
     said : Said c.link (after c calls).desk.left (after c calls).desk.out s.says
-    said = said_one c.link (after c calls).desk.left (after c calls).desk.out s.says g.told
+    said =
+        let first_is : Some s.says ≡ slip_of c.link (first (after c calls).desk.left) = cc g.told in
+        said_one c.link (after c calls).desk.left (after c calls).desk.out s.says first_is
 
     -- there are at most 1024 packets out after it
     pub has_room : length ss + 1 ≤ 1024

@@ -1,5 +1,5 @@
 -- One call more, and one adding more. Assumes nothing.
-use Rattle.std.proofs.Common.{◌≡◌, ℕ, zero, suc, ◌+◌, ◌<◌, List, [], ◌∷◌, ◌++◌, reverse, length, get_or, take, replicate, Ok, Err, Result, sym, refl, ap, ◌∙◌, subst, append_assoc}
+use Rattle.std.proofs.Common.{◌≡◌, ℕ, ◌+◌, ◌<◌, List, [], ◌∷◌, ◌++◌, reverse, length, get_or, take, Ok, Err, Result, sym, refl, ap, ◌∙◌, subst, append_assoc}
 use mathlib.Core.List.{reverse-append}
 use Rattle.std.proofs.lemmas.List.{take_more}
 use Rattle.waiting_line.specs.declared.line.WaitingLine.{Ghosts as WaitingLine}
@@ -10,25 +10,18 @@ use Rattle.tick_machine.specs.declared.call.Call.TheVariants.{Arrive, MoveTo}
 use Rattle.tick_machine.specs.declared.call.Answer.{Answer}
 use Rattle.tick_machine.specs.declared.call.Answer.TheVariants.{Added}
 use Rattle.tick_machine.specs.Machine.{Config, Machine}
-use Rattle.tick_machine.specs.Life.{adding, added, drafted, told, arrival, move, accepted, ticked, steps, if_granted, after, answers}
+use Rattle.tick_machine.specs.Life.{adding, added, drafted, told, arrival, move, accepted, steps, if_granted, after, answers}
 use Rattle.link.specs.declared.draft.Draft.{Draft}
 use Rattle.link.specs.declared.link.Link.{Link}
 use Rattle.link.specs.declared.slip.Slip.{Slip}
 use Rattle.link.specs.Promise.{Goes}
 use Rattle.link.specs.Drafting.{Drafts, Adds}
 use Rattle.link.proofs.Drafts.{drafted_push}
+use Rattle.link.proofs.Outs.{move_out}
 use Rattle.replay.specs.History.{adding_answers}
 use Rattle.replay.specs.Hand.{InHand, Held, Answered, Called, AddedAll}
 
--- no tick changes which packets are out
-ticks_out : (c : Config) (m : Machine) (k : ℕ) → (steps c (replicate k ticked) m).desk.out ≡ m.desk.out
-ticks_out c m zero = refl
-ticks_out c m (suc k) = ticks_out c m k
-
-move_out : {X : Type 0} (c : Config) (m : Machine) (r : Result X Refusal) (k : ℕ) → (steps c (if_granted r (replicate k ticked)) m).desk.out ≡ m.desk.out
-move_out c m (Ok x) k = ticks_out c m k
-move_out c m (Err e) k = refl
-
+-- packets out after a clock move and an arrival
 pub move_to_out : (c : Config) (calls : List Call) (t : ℕ) → (after c (MoveTo t ∷ calls)).desk.out ≡ (after c calls).desk.out
 move_to_out c calls t = move_out c (after c calls) (move c t (after c calls)) _
 

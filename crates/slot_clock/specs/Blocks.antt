@@ -1,7 +1,7 @@
 -- Blocks of positions: the code's loops and closed forms give owners and counts. Nothing else here looks into the blocks. Assumes nothing.
 use Rattle.std.specs.Prelude.{◌≡◌, ℕ, zero, suc, ◌+◌, ◌-◌, ◌*◌, ◌/◌, ◌%◌, ◌<◌, ◌≤◌, min, Bool, true, false, List, [], ◌∷◌, length, drop, nat_lt, slice_index, refl}
 use Rattle.std.proofs.Math.Path.{sym, ap}
-use Rattle.std.proofs.Common.{subst, ◌∙◌, ⊎_elim, add-one, zero-add, suc-add, mod-lt, drop-cons}
+use Rattle.std.proofs.Common.{subst, ◌∙◌, ⊎_elim, add-one, zero-add, suc-add, mod-lt}
 use native.Mathlib.Omega.{arith}
 use Rattle.std.proofs.Math.Nat.{add-mod_right, mod-eq_of_lt, div-add-mod, mul-add-mod_self_left}
 use Rattle.std.proofs.lemmas.Bool.{lt-ltb, le-ltb, cases_lt, cases_Bool, cond-true, cond-false}
@@ -43,21 +43,6 @@ left_next ws position i p h l =
 pub left_last : (ws : List ℕ) (position i p : ℕ) → Left ws position i p → i < length ws → p < slice_index ws i → i ≡ holder ws position
 left_last ws position i p h k l = omega (arith, h.same, left_found ws i p k l)
 
--- the loops over the sessions
-pub round_more : (ws : List ℕ) (i : ℕ) → i < length ws → round_length (drop i ws) ≡ slice_index ws i + round_length (drop (i + 1) ws)
-round_more ws i l = rw add-one (ap round_length (drop-cons ws i 0 l))
-
-pub whole_more : (b : ℕ → Bool) (ws : List ℕ) (i : ℕ) → i < length ws → whole b i (drop i ws) ≡ only (b i) (slice_index ws i) + whole b (i + 1) (drop (i + 1) ws)
-whole_more b ws i l = rw add-one (ap (whole b i) (drop-cons ws i 0 l))
-
-pub whole_most : (b : ℕ → Bool) (i : ℕ) (ws : List ℕ) → whole b i ws ≤ round_length ws
-whole_most b i [] = omega arith
-whole_most b i (w ∷ ws) = omega (arith, only_at_most (b i) w, whole_most b (suc i) ws)
-
-pub part_most : (b : ℕ → Bool) (i : ℕ) (ws : List ℕ) (p : ℕ) → part b i ws p ≤ round_length ws
-part_most b i [] p = omega arith
-part_most b i (w ∷ ws) p = omega (arith, only_at_most (b i) (min p w), part_most b (suc i) ws (p - w))
-
 part_none : (b : ℕ → Bool) (i : ℕ) (ws : List ℕ) → part b i ws 0 ≡ 0
 part_none b i [] = refl
 part_none b i (w ∷ ws) =
@@ -97,7 +82,8 @@ count_part b i (w ∷ ws) p l =
     omega (arith, c, ap (only (b i)) m, count_split f w (p - w), ap (count f) e, g, count_part b (suc i) ws (p - w) (omega arith)))
     (cases_lt p w)
 
-part_whole : (b : ℕ → Bool) (i : ℕ) (ws : List ℕ) → part b i ws (round_length ws) ≡ whole b i ws
+-- all positions lie below the round's length
+pub part_whole : (b : ℕ → Bool) (i : ℕ) (ws : List ℕ) → part b i ws (round_length ws) ≡ whole b i ws
 part_whole b i [] = refl
 part_whole b i (w ∷ ws) =
     let m : min (w + round_length ws) w ≡ w = omega arith in

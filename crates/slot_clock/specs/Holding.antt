@@ -68,7 +68,7 @@ module _ (h : Held) where
             cond-true (nat_lt i (length (weights_of h))) _ _ known ∙ cond-true (nat_lt 0 n && nat_le n 65535) _ _ sized
             ∙ cond-true (nat_le (owed_in_all (held_state h) + n) 67107840) _ _ (le-leb (owed_in_all (held_state h) + n) 67107840 (omega (arith, all_owed)))
 
-  -- a packet that room.known is room for
+  -- a packet that there is room for
   module _ (i n q : ℕ) (room : Room h i n q) where
     pub held_from : q + n * h.layout.slots < 2 ^ 62
     held_from = from_near (weights_of h) (next_of h) h.layout.slots h.cursor h.ticks h.owed sound i n q room.known room.long room.fits room.start

@@ -86,13 +86,7 @@ impl<const MOST: usize> Layout<MOST> {
         ensures is { (b : ℕ → Bool) → Tells (F.post counts.now) b → result ≡ whole_weight b 0 self.now.weights.items }
         ensures most { result ≤ self.now.slots }
     {
-        let mut sum = 0;
-        for (i, weight) in self.weights.iter().enumerate() {
-            if counts(i) {
-                sum += *weight;
-            }
-        }
-        sum
+        self.part(counts, self.slots)
     }
 
     // How many positions below this one count.

@@ -11,7 +11,8 @@ use crate::clock::SlotClock;
 use crate::held::Held;
 use crate::refusal::ClockRefusal;
 
-// V after so many ticks. A `while`, as it looks at slots until enough were served: no range ends there.
+// V after so many ticks. A `while`: it counts the slots that it looks at and the ticks that it serves apart, so that no range of either ends it, and by
+// `nth`, as below, a move that serves no slot would be a case of its own.
 fn after(held: &Held, ticks: u64) -> u64
     ensures { result ≡ ticks_cursor (weights_of held.now) (next_of held.now) ticks held.now.cursor }
 {
@@ -26,20 +27,16 @@ fn after(held: &Held, ticks: u64) -> u64
     v
 }
 
-// The stamp: the highest of the session's so many lowest slots from a slot on. A `while`, as no range ends at it.
+// The stamp: the highest of the session's so many lowest slots from a slot on. Each round has one of its slots, so that as many
+// rounds have them all.
 fn stamp_of(held: &Held, session: u64, size: u64, from: u64) -> u64
     requires { Room held.now session size from }
     ensures { result ≡ final 0 (own_slots (weights_of held.now) session size from) }
 {
-    let mut q = from;
-    let mut left = size;
-    while left > 0 {
-        if held.layout.owner(q) == session as usize {
-            left -= 1;
-        }
-        q += 1;
-    }
-    q - 1
+    (from..from + size * held.layout.slots)
+        .filter(|q| held.layout.owner(*q) == session as usize)
+        .nth((size - 1) as usize)
+        .unwrap()
 }
 
 #[derive(Drop)]

@@ -1,47 +1,44 @@
-use Rattle.std.proofs.Common.{◌≡◌, ◌+◌, refl, ◌∙◌, arith}
-use Rattle.tick_machine.specs.Slots.{owner}
-use Rattle.slot_clock.specs.Walk.{below}
-use Rattle.slot_clock.specs.Held.{weights_of}
-use Rattle.slot_clock.specs.Holding.{sound, held_stamp, held_low}
-use Rattle.slot_clock.proofs.Steps.{not_past, arrived, below_own, below_other}
+use Rattle.std.proofs.Common.{◌≡◌, ◌+◌, ◌-◌, ◌*◌, ℕ, eqb, refl, sym, ◌∙◌, subst, arith, rules, tests}
+use Rattle.std.specs.Prelude.{Option, Some, slice_get}
+use Rattle.std.specs.List.{filter, range_with_len}
+use Rattle.std.specs.Option.{IsSome, option_map}
+use Rattle.std.proofs.lemmas.Iterator.{YieldsList-from_range}
+use Rattle.std.proofs.lemmas.Iterator.Adapters.{option_map_id}
+use Rattle.std.proofs.lemmas.Iterator.Consumers.{nth_from_yields_List, YieldsList-from_filter}
+use Rattle.tick_machine.specs.Lists.{final}
+use Rattle.tick_machine.specs.Slots.{owner, own_slots}
+use Rattle.slot_clock.specs.declared.held.Held.{Held}
+use Rattle.slot_clock.specs.Held.{weights_of, Room}
+use Rattle.slot_clock.specs.Holding.{sound, held_from}
+use Rattle.slot_clock.proofs.Steps.{stamp_nth}
 use Rattle.slot_clock.proofs.step.stamp_of.Goals as goal
-use Rattle.slot_clock.proofs.step.stamp_of.Goals.{then-owner-session, else-owner-session}
 
-pub loop-left-init : goal.loop-left-init
-loop-left-init c = let low = held_low c.args.held.now c.args.session c.args.size c.args.from c.requires _ refl in (refl, omega (arith, low))
+pub overflow_add-from : goal.overflow_add-from
+overflow_add-from c = omega (arith, held_from c.args.held.now c.args.session c.args.size c.args.from c.requires)
 
-pub overflow_add-q : goal.overflow_add-q
-overflow_add-q c =
+-- what `nth` answers, if it goes along the session's slots of so many rounds
+chosen : (h : Held) (i n from : ℕ) → Room h i n from → (r : Option ℕ) → option_map (λ q. q) r ≡ slice_get (filter (λ q. eqb (owner (weights_of h) q) i) (range_with_len from (n * h.layout.slots))) (n - 1)
+    → r ≡ Some (final 0 (own_slots (weights_of h) i n from))
+chosen h i n from room r e = sym (option_map_id r) ∙ e ∙ stamp_nth (weights_of h) (sound h).each i n from h.layout.slots room.known room.long h.layout.whole
+
+pub unwrap-requires : goal.unwrap-requires
+unwrap-requires c =
     let h = c.args.held.now in
-    omega (
-      arith,
-      held_stamp h c.args.session c.args.size c.args.from c.requires _ refl,
-      not_past (weights_of h) (sound h).each c.args.session c.args.size c.args.from c.requires.known c.requires.long c.loop-left.q c.loop-left.left c.loop-left.invariant.0 c.loop-left-test.true,
-    )
-
-pub loop-left-smaller : goal.loop-left-smaller
-loop-left-smaller c =
-    let h = c.args.held.now in
-    omega (arith, not_past (weights_of h) (sound h).each c.args.session c.args.size c.args.from c.requires.known c.requires.long c.loop-left.q c.loop-left.left c.loop-left.invariant.0 c.loop-left-test.true)
-
-pub loop-left-preserved : goal.loop-left-preserved
-loop-left-preserved c =
-    let h = c.args.held.now in
-    let ws = weights_of h in
-    let i = c.args.session in
-    let q = c.loop-left.q in
-    let o : c.owner.result ≡ owner ws q = c.owner.ensures.is in
-    let at = c.loop-left.invariant.0 in
-    let p = not_past ws (sound h).each i c.args.size c.args.from c.requires.known c.requires.long q c.loop-left.left at c.loop-left-test.true in
-    let e : below ws i (q + 1) + c.if-owner-session.left ≡ below ws i c.args.from + c.args.size
-    = elim c.if-owner-session.branch [
-      | then-owner-session w ↦ omega (arith, w.left-is, c.loop-left-test.true, at, below_own ws i q (omega (arith, w.if-owner-session.true)))
-      | else-owner-session w ↦ omega (arith, w.left-is, at, below_other ws i q (λ x. w.if-owner-session.false (o ∙ x)))
-    ] in
-    (e, omega (arith, p))
+    let n = c.args.size * h.layout.slots in
+    let far : (c.args.from + n) - c.args.from ≡ n = omega arith in
+    let e = chosen h c.args.session c.args.size c.args.from c.requires c.nth.result
+    (nth_from_yields_List c.nth.result c.nth.new.self (c.args.size - 1) c.nth.ensures.ran
+    (YieldsList-from_filter _ (λ q. eqb (owner (weights_of h) q) c.args.session) (YieldsList-from_range c.args.from (c.args.from + n) n c.filter.ensures.source far)
+    c.filter.ensures.closure (λ x r q k. search (rules, tests)))) in
+    subst IsSome (sym e) refl
 
 pub returns : goal.returns
 returns c =
     let h = c.args.held.now in
-    arrived (weights_of h) (sound h).each c.args.session c.args.size c.args.from c.requires.known c.requires.long c.loop-left.q
-    (omega (arith, c.loop-left.invariant.0, c.loop-left-test.false)) c.loop-left.invariant.1
+    let n = c.args.size * h.layout.slots in
+    let far : (c.args.from + n) - c.args.from ≡ n = omega arith in
+    let e = chosen h c.args.session c.args.size c.args.from c.requires c.nth.result
+    (nth_from_yields_List c.nth.result c.nth.new.self (c.args.size - 1) c.nth.ensures.ran
+    (YieldsList-from_filter _ (λ q. eqb (owner (weights_of h) q) c.args.session) (YieldsList-from_range c.args.from (c.args.from + n) n c.filter.ensures.source far)
+    c.filter.ensures.closure (λ x r q k. search (rules, tests)))) in
+    cc

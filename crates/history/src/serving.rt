@@ -56,7 +56,7 @@ impl<W: WaitingLine, S: SlotClock> OpenLink<W, S> {
         }
     }
 
-    // A command at an open link.
+    // A command at an open link. (An arm for each: what differs is the call, and not how its answer is told.)
     pub(crate) fn serve(mut self, n: u64, command: Command) -> (Self, Reply)
         ensures { (s : Stage) → AtLink W.WaitingLine S.SlotClock s self → Went (AtLink W.WaitingLine S.SlotClock) (obey n s command) result.0 result.1 }
     {

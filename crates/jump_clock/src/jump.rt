@@ -1,10 +1,7 @@
 // The slot clock that jumps from one slot in which a session runs dry to the next.
 ghost use Rattle.std.specs.Prelude.{◌≡◌, ◌+◌, ◌≤◌, length, Ok, Err, MatchResult};
-ghost use Rattle.tick_machine.specs.Lists.{final};
-ghost use Rattle.tick_machine.specs.Slots.{own_slots};
 ghost use Rattle.slot_clock.specs.Calls.{add_answer, add_after, run_answer, run_after};
-ghost use Rattle.slot_clock.specs.Walk.{ticks_cursor};
-ghost use Rattle.slot_clock.specs.Held.{weights_of, next_of, held_state, Room};
+ghost use Rattle.slot_clock.specs.Held.{next_of, held_state, Room, cursor_after, stamp_from};
 ghost use Rattle.jump_clock.specs.Dries.{items, Holds, busy_sessions, halfway};
 ghost use Rattle.slot_clock.specs.Holding.{held_served, held_sized, held_early, held_near};
 
@@ -25,7 +22,7 @@ pub struct JumpClock {
 fn run_on(held: &Held, busy: &mut Busy, ticks: u64) -> (u64, u64)
     requires holds { Holds (items busy.old) held.now.cursor (next_of held.now) }
     requires few { ticks ≤ 17592186044416 }
-    ensures is { result.0 ≡ ticks_cursor (weights_of held.now) (next_of held.now) ticks held.now.cursor }
+    ensures is { result.0 ≡ cursor_after held.now ticks }
     ensures holds { Holds (items busy.new) result.0 (next_of held.now) }
     ensures jumps { result.1 + length (items busy.new) ≡ length (items busy.old) + halfway held.now.cursor result.0 (next_of held.now) }
 {
@@ -51,7 +48,7 @@ impl JumpClock {
     // The session gets every slot of its own up to the stamp, and is busy until it.
     fn grant(&mut self, session: u64, size: u64, from: u64, stamp: u64)
         requires room { Room self.old.held session size from }
-        requires stamp { stamp ≡ final 0 (own_slots (weights_of self.old.held) session size from) }
+        requires stamp { stamp ≡ stamp_from self.old.held session size from }
         ensures answer { add_answer (held_state self.old.held) session size ≡ Ok stamp }
         ensures after { held_state self.new.held ≡ add_after (held_state self.old.held) session size }
     {

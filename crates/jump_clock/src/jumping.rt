@@ -1,9 +1,7 @@
 // A jump, and a stamp in closed form.
 ghost use Rattle.std.specs.Prelude.{◌≡◌, ◌+◌, ◌-◌, ◌<◌, ◌≤◌, slice_index};
-ghost use Rattle.tick_machine.specs.Lists.{final};
-ghost use Rattle.tick_machine.specs.Slots.{own_slots};
 ghost use Rattle.slot_clock.specs.Walk.{ticks_cursor};
-ghost use Rattle.slot_clock.specs.Held.{weights_of, Room};
+ghost use Rattle.slot_clock.specs.Held.{Room, stamp_from};
 ghost use Rattle.jump_clock.specs.Jumps.{Ahead};
 
 use slot_clock::held::Held;
@@ -34,7 +32,7 @@ pub fn jump(layout: &Layout<64>, next: &[u64], v: u64, at: usize, left: u64) -> 
 // The highest of the session's so many lowest slots from a slot on.
 pub fn jump_stamp(held: &Held, session: u64, size: u64, from: u64) -> u64
     requires { Room held.now session size from }
-    ensures { result ≡ final 0 (own_slots (weights_of held.now) session size from) }
+    ensures { result ≡ stamp_from held.now session size from }
 {
     let session = session as usize;
     let own = move |other: usize| other == session;

@@ -1,4 +1,4 @@
-// Why no draft is made: a refusal, or no memory.
+// Why no draft is made: a refusal, or no memory. (Who makes a draft matches on both and on the draft at once, since each of the three goes on elsewhere.)
 ghost use Rattle.std.specs.Prelude.{◌≡◌};
 ghost use Rattle.link.specs.declared.error.MakeError.TheVariants.{Refused, NoMemory};
 ghost use Rattle.link.specs.Making.{made_error};

@@ -2,7 +2,7 @@
 ghost use Rattle.std.specs.Prelude.{◌≡◌, ◌+◌, ◌≤◌, ◌++◌, length, vec_len, vec_capacity, IfOk, OnOk};
 ghost use Rattle.tick_machine.specs.Machine.{Config};
 ghost use Rattle.link.specs.Drafting.{Drafts};
-ghost use Rattle.tick_machine.specs.Life.{made as made_of};
+ghost use Rattle.tick_machine.specs.Life.{making_of};
 ghost use Rattle.link_play.specs.Plays.{Spends, Plays, Answered, draft_replies, history_replies};
 
 use crate::step::Step;
@@ -81,7 +81,7 @@ pub fn answers_of<W: WaitingLine + Drop, S: SlotClock + Drop>(
     weights: &[u64],
     steps: &[Step],
 ) -> Result<Vec<Answer>, AllocError>
-    ensures { IfOk result (λ v. v.items ≡ history_replies making.number (made_of making.number making.largest making.capacity making.weight) weights.now steps.now) }
+    ensures { IfOk result (λ v. v.items ≡ history_replies making.number (making_of making) weights.now steps.now) }
 {
     let mut answers = Vec::with_capacity(heap, weights.len() + steps.len() + 2)?;
     match Draft::<W>::make(heap, making) {

@@ -9,7 +9,7 @@ use Rattle.tick_machine.specs.declared.call.Answer.TheVariants.{Made, Opened, Re
 use Rattle.tick_machine.specs.Lists.{none}
 use Rattle.tick_machine.specs.Slots.{round_length}
 use Rattle.tick_machine.specs.Machine.{Config}
-use Rattle.tick_machine.specs.Life.{adding, with_session, added, drafted, answers}
+use Rattle.tick_machine.specs.Life.{adding, with_session, added, drafted, answers, making_of}
 use Rattle.link.specs.declared.link.Link.{Link}
 use Rattle.link.specs.declared.slip.Slip.{Slip}
 use Rattle.link.specs.declared.error.MakeError.{MakeError}
@@ -17,7 +17,7 @@ use Rattle.link.specs.declared.error.MakeError.TheVariants as error
 use Rattle.link.specs.Drafting.{Makes, Opens}
 use Rattle.link.proofs.Reached.{lawful}
 use Rattle.tick_machine.specs.declared.call.Making.{Making}
-use Rattle.replay.specs.History.{making_of, adding_answers, life_answers, history_answers, packets, OfLink, Lives, Plays}
+use Rattle.replay.specs.History.{adding_answers, life_answers, history_answers, packets, OfLink, Lives, Plays}
 use Rattle.replay.specs.Hand.{InHand, Held, Called}
 
 -- no adding changes the link's number

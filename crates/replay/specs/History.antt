@@ -7,14 +7,10 @@ use Rattle.tick_machine.specs.declared.call.Answer.TheVariants.{Made, Added, Ope
 use Rattle.tick_machine.specs.Lists.{All}
 use Rattle.tick_machine.specs.Slots.{round_length}
 use Rattle.tick_machine.specs.Machine.{Config}
-use Rattle.tick_machine.specs.Life.{made, adding, added, drafted, told, after, answers}
+use Rattle.tick_machine.specs.Life.{adding, added, drafted, told, after, answers, making_of}
 use Rattle.tick_machine.specs.Law.{Lawful}
 use Rattle.link.specs.declared.slip.Slip.{Slip}
 use Rattle.tick_machine.specs.declared.call.Making.{Making}
-
--- what a making makes, or why it is refused
-abbrev pub making_of : Making → Result Config Refusal
-making_of m = made m.number m.largest m.capacity m.weight
 
 -- the answers to addings, the first first: each adds to what the ones before it have made of the draft
 abbrev pub adding_answers : Config → List ℕ → List Answer

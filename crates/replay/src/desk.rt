@@ -7,6 +7,7 @@ ghost use Rattle.link.specs.Drafting.{Drafts, Opens};
 ghost use Rattle.replay.specs.Hand.{Taken, Missing, Held, Reached, Answers, Called};
 
 use link::draft::Draft;
+use link::limits::UNSETTLED;
 use link::link::Link;
 use link::slip::Slip;
 use link::table::place;
@@ -34,9 +35,6 @@ impl<W: WaitingLine, S: SlotClock> Model for Desk<W, S> {
     ghost invariant = { λ d. Reached W.WaitingLine S.SlotClock (record { link = d.link; slips = d.slips.items }) × (1024 ≤ vec_capacity d.slips) };
 }
 
-// How many packets may be out at once.
-const UNSETTLED: usize = 1024;
-
 // Takes the slip of that link number and packet number from those in hand of the link `own`, or says why there is none.
 fn take(own: u64, slips: &mut Vec<Slip>, number: u64, packet: u64) -> Result<Slip, Refusal>
     ensures found { MatchResult result (λ s. Taken own number packet slips.old.items s slips.new.items) (λ e. Missing own number packet slips.old.items e slips.new.items) }
@@ -46,6 +44,7 @@ fn take(own: u64, slips: &mut Vec<Slip>, number: u64, packet: u64) -> Result<Sli
     if number != own {
         return Err(Refusal::OtherLink);
     }
+    // a match, since one arm alone changes the slips
     match place(slips, packet) {
         Some(i) => Ok(slips.remove(i)),
         None => Err(Refusal::NotOut),
@@ -143,7 +142,7 @@ impl<W: WaitingLine, S: SlotClock> Desk<W, S> {
         settle(&mut self.link, &mut self.slips, how, number, packet)
     }
 
-    // A call of the link.
+    // A call of the link. (An arm for each: what differs is the call, and not how its answer is told.)
     pub fn answer(&mut self, call: Call) -> Answer
         ensures { Answers W.WaitingLine S.SlotClock self.old call result self.new }
     {

@@ -1,10 +1,7 @@
 // What all slot clocks do alike with what they hold.
 ghost use Rattle.std.specs.Prelude.{◌≡◌, ◌+◌, ◌-◌, ◌*◌, ◌<◌, ◌≤◌, length, replicate, IfOk, Ok, Err, MatchResult, slice_set};
-ghost use Rattle.tick_machine.specs.Lists.{final};
-ghost use Rattle.tick_machine.specs.Slots.{own_slots};
 ghost use Rattle.slot_clock.specs.Calls.{made_answer, made_state, add_answer, add_after, run_answer, run_after, owed_answer};
-ghost use Rattle.slot_clock.specs.Walk.{ticks_cursor};
-ghost use Rattle.slot_clock.specs.Held.{weights_of, next_of, held_state, Room};
+ghost use Rattle.slot_clock.specs.Held.{weights_of, next_of, held_state, Room, cursor_after, stamp_from};
 
 use crate::held::Held;
 use crate::layout::Layout;
@@ -61,7 +58,7 @@ impl Held {
     // The session gets every slot of its own up to the stamp.
     pub fn grant(&mut self, session: u64, size: u64, from: u64, stamp: u64)
         requires room { Room self.old session size from }
-        requires stamp { stamp ≡ final 0 (own_slots (weights_of self.old) session size from) }
+        requires stamp { stamp ≡ stamp_from self.old session size from }
         ensures answer { add_answer (held_state self.old) session size ≡ Ok stamp }
         ensures after { held_state self.new ≡ add_after (held_state self.old) session size }
         ensures next { (self.new.cursor ≡ self.old.cursor) × (next_of self.new ≡ slice_set (next_of self.old) session (stamp + 1)) }
@@ -83,7 +80,7 @@ impl Held {
     // V has come to where so many ticks bring it.
     pub fn pass(&mut self, ticks: u64, to: u64)
         requires few { self.old.ticks + ticks ≤ 17592186044416 }
-        requires there { to ≡ ticks_cursor (weights_of self.old) (next_of self.old) ticks self.old.cursor }
+        requires there { to ≡ cursor_after self.old ticks }
         ensures answer { run_answer (held_state self.old) ticks ≡ Ok tt }
         ensures after { held_state self.new ≡ run_after (held_state self.old) ticks }
         ensures next { (self.new.cursor ≡ to) × (next_of self.new ≡ next_of self.old) }

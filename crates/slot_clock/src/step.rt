@@ -1,10 +1,7 @@
 // A slot clock that goes slot by slot. It looks at one slot after another and asks whose it is; it stops once as many
 // were served as ticks passed or as bytes were owed, so that it does not go on when nothing is owed.
 ghost use Rattle.std.specs.Prelude.{◌≡◌, ◌+◌, ◌<◌, ◌≤◌};
-ghost use Rattle.tick_machine.specs.Lists.{final};
-ghost use Rattle.tick_machine.specs.Slots.{own_slots};
-ghost use Rattle.slot_clock.specs.Walk.{ticks_cursor};
-ghost use Rattle.slot_clock.specs.Held.{weights_of, next_of, held_state, Room};
+ghost use Rattle.slot_clock.specs.Held.{held_state, Room, cursor_after, stamp_from};
 ghost use Rattle.slot_clock.specs.Holding.{held_served, held_sized, held_early, held_near};
 
 use crate::clock::SlotClock;
@@ -14,7 +11,7 @@ use crate::refusal::ClockRefusal;
 // V after so many ticks. A `while`: it counts the slots that it looks at and the ticks that it serves apart, so that no range of either ends it, and by
 // `nth`, as below, a move that serves no slot would be a case of its own.
 fn after(held: &Held, ticks: u64) -> u64
-    ensures { result ≡ ticks_cursor (weights_of held.now) (next_of held.now) ticks held.now.cursor }
+    ensures { result ≡ cursor_after held.now ticks }
 {
     let mut v = held.cursor;
     let mut left = ticks.min(held.owed);
@@ -31,7 +28,7 @@ fn after(held: &Held, ticks: u64) -> u64
 // rounds have them all.
 fn stamp_of(held: &Held, session: u64, size: u64, from: u64) -> u64
     requires { Room held.now session size from }
-    ensures { result ≡ final 0 (own_slots (weights_of held.now) session size from) }
+    ensures { result ≡ stamp_from held.now session size from }
 {
     (from..from + size * held.layout.slots)
         .filter(|q| held.layout.owner(*q) == session as usize)

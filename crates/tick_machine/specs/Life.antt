@@ -4,6 +4,7 @@ use Rattle.std.specs.Prelude.{ℕ, ◌+◌, ◌-◌, Bool, cond, ◌&&◌, List,
 use Rattle.tick_machine.specs.declared.refusal.LineRefusal.TheVariants.{Full}
 use Rattle.tick_machine.specs.declared.refusal.Refusal.{Refusal}
 use Rattle.tick_machine.specs.declared.refusal.Refusal.TheVariants.{LinkNumber, Largest, Capacity, FirstWeight, Weight, TooManySessions, TooMuchWeight, UnknownSession, Empty, TooLong, NoRoom, TooManyUnsettled, TickPassed, PastTheEnd, OtherLink, NotOut}
+use Rattle.tick_machine.specs.declared.call.Making.{Making}
 use Rattle.tick_machine.specs.declared.call.Call.{Call}
 use Rattle.tick_machine.specs.declared.call.Call.TheVariants.{Arrive, MoveTo, Collect, File, Return, AskFigures, AskTotals}
 use Rattle.tick_machine.specs.declared.call.Settlement.{Settlement}
@@ -40,6 +41,10 @@ made link largest capacity weight =
     (Err Capacity))
     (Err Largest))
     (Err LinkNumber)
+
+-- the same of its four numbers together
+abbrev pub making_of : Making → Result Config Refusal
+making_of m = made m.number m.largest m.capacity m.weight
 
 -- ADDING a session takes a weight and answers the session's number
 abbrev pub adding : Config → ℕ → Result ℕ Refusal

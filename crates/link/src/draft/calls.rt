@@ -1,7 +1,7 @@
 // Making a draft, adding sessions to it, opening it.
 ghost use Rattle.std.specs.Prelude.{◌≡◌};
 ghost use Rattle.tick_machine.specs.Machine.{Config};
-ghost use Rattle.tick_machine.specs.Life.{made as made_of};
+ghost use Rattle.tick_machine.specs.Life.{making_of};
 ghost use Rattle.link.specs.Making.{checked};
 ghost use Rattle.link.specs.Drafting.{Drafts, Makes, Added, Unchanged, Opens};
 
@@ -18,7 +18,7 @@ use waiting_line::line::WaitingLine;
 
 // The checks of a making, in their order.
 fn check(making: Making) -> Result<(), Refusal>
-    ensures { result ≡ checked (made_of making.number making.largest making.capacity making.weight) }
+    ensures { result ≡ checked (making_of making) }
 {
     if making.number > LAST_LINK {
         return Err(Refusal::LinkNumber);
@@ -40,7 +40,7 @@ impl<W: WaitingLine> Draft<W> {
     pub fn make(heap: Global, making: Making) -> Result<Draft<W>, MakeError>
     where
         W: Drop,
-        ensures { Makes W.WaitingLine (made_of making.number making.largest making.capacity making.weight) result }
+        ensures { Makes W.WaitingLine (making_of making) result }
     {
         check(making)?;
         let waiting: W = W::make(heap, making.capacity)?;

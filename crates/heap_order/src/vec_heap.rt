@@ -82,7 +82,7 @@ impl<T: TotalOrder> Heap<T> {
         sift_up(&mut self.items, at);
     }
 
-    // Takes the first, which is the least, if there is one.
+    // Takes the first, which is the least, if there is one. (A test first, since a vector's `swap_remove` needs an element.)
     pub fn take_first(&mut self) -> Option<T>
         ensures value { result ≡ slice_get self.old.items 0 }
         ensures least { FirstLeast T.before self.old.items }

@@ -40,7 +40,8 @@ fn play<W: WaitingLine, S: SlotClock>(desk: &mut Desk<W, S>, step: Step) -> Answ
     }
 }
 
-// Every step in turn, with its answer put behind those that are there.
+// Every step in turn, with its answer put behind those that are there. (Room is asked, here and below, since it differs with the number of answers to come,
+// so that no type can say it.)
 fn play_all<W: WaitingLine, S: SlotClock>(
     desk: &mut Desk<W, S>,
     steps: &[Step],

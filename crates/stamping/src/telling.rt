@@ -52,7 +52,7 @@ impl<C: SlotClock, D: SlotClock, V: WaitingLine, W: WaitingLine> Bench<C, D, V, 
         }
     }
 
-    // Takes every packet, in the order of sending.
+    // Takes every packet, in the order of sending. (Counted, since `hear` is told both lines' answers as one value, which a `while let` on a packet takes apart.)
     #[tactic(auto, using(crate::proofs::Takes::length_of_rest))]
     fn send_all(&mut self, rt: &HostRuntime) -> io::Result<()>
         ensures { OnOk result (length (V.WaitingLine.pairs self.new.lines.one) ≡ 0) }

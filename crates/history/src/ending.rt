@@ -11,6 +11,7 @@ use slot_clock::clock::SlotClock;
 use tick_machine::call::Answer;
 use waiting_line::line::WaitingLine;
 
+// The promise asks `AtLink`: a stage is no part of the clerk's value, since the trait says of any clerk at which stage it stands.
 impl<W: WaitingLine + Drop, S: SlotClock + Drop> OpenLink<W, S> {
     // The slip in hand is returned. It is out, so its return is granted.
     pub(crate) fn close(self) -> Option<Reply>

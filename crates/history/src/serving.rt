@@ -11,6 +11,7 @@ use slot_clock::clock::SlotClock;
 use tick_machine::call::{Answer, Settlement};
 use waiting_line::line::WaitingLine;
 
+// Each promise asks `AtLink`: a stage is no part of the clerk's value, since the trait says of any clerk at which stage it stands.
 impl<W: WaitingLine, S: SlotClock> OpenLink<W, S> {
     // Hands out a slip, if none is in hand.
     fn take(self, n: u64) -> (Self, Reply)

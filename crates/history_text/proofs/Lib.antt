@@ -1,5 +1,5 @@
 pub mod Parting
-pub mod Digitwise
+pub mod NumberRead
 pub mod Naming
 pub mod KindOf
 pub mod LineRead

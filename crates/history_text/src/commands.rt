@@ -16,7 +16,7 @@ pub enum Command {
     // weight
     Add(u64),
     Open,
-    // session, length, tag
+    // session, length, tag, side by side, as the line of a history has them
     Arrive(u64, u64, u64),
     // tick
     MoveTo(u64),

@@ -1,17 +1,15 @@
 // Numbers are read in decimal.
-ghost use Rattle.std.specs.Prelude.{◌≡◌};
+ghost use Rattle.std.specs.Prelude.{◌≡◌, ◌<◌, length};
 ghost use Rattle.history_text.specs.Numerals.{amount, numeral};
 
-// The number that the digits write, if each byte is one and the number fits.
+// The number that the digits write, if each byte is one and the number fits. The library also takes a plus in front, which is no digit.
 fn amount_of(digits: &[u8]) -> Option<u64>
-    ensures { result ≡ amount 0 digits.now }
+    ensures { 0 < length digits.now → result ≡ amount 0 digits.now }
 {
-    let mut n: u64 = 0;
-    for b in digits {
-        let digit = char::from(*b).to_digit(10)?;
-        n = n.checked_mul(10)?.checked_add(u64::from(digit))?;
+    if digits.starts_with(b"+") {
+        return None;
     }
-    Some(n)
+    str::from_utf8(digits).ok()?.parse::<u64>().ok()
 }
 
 // The number that the bytes write, with no leading zero.

@@ -20,6 +20,7 @@ pub enum Word {
     Back,
 }
 
+// The words are chosen by char literals as cases on the field's bytes: the project asks for this form.
 #[tactic(auto, using(std::proofs::lemmas::Slice::Eq::text_from_reads))]
 fn spell(bytes: &[u8]) -> Option<Word>
     ensures { Spells bytes.now result }

@@ -1,30 +1,14 @@
-use Rattle.std.proofs.Common.{◌∙◌, get_or, arith, rules}
-use Rattle.history_text.proofs.Digitwise.{decimal, digits_end, digit_more, digit_missing, digit_too_many}
+use Rattle.std.proofs.Common.{◌≡◌, ◌≢◌, get_or, ◌∙◌, rules}
+use Rattle.std.specs.Str.Parse.{ParsesUnsigned}
+use Rattle.history_text.proofs.NumberRead.{no_text, parsed}
 use Rattle.history_text.proofs.numerals.amount_of.Goals as goal
 
-pub returns-in_err-digit : goal.returns-in_err-digit
-returns-in_err-digit c = c.from_residual.ensures ∙ digit_missing c.loop-b.n c.args.digits.now c.loop-b.b-index (search rules) (search rules) ∙ c.loop-b.invariant.1
-
-pub returns-in_err-checked_mul : goal.returns-in_err-checked_mul
-returns-in_err-checked_mul c =
-    c.from_residual-in_err-checked_mul.ensures
-    ∙ digit_too_many c.loop-b.n c.args.digits.now c.loop-b.b-index (search rules) (omega (arith, c.in_err-checked_mul.ensures))
-    ∙ c.loop-b.invariant.1
-
-pub returns-in_err-n : goal.returns-in_err-n
-returns-in_err-n c =
-    let d = decimal (get_or c.args.digits.now c.loop-b.b-index 0) c.in_ok-digit.digit (search rules) (search rules) in
-    c.from_residual-in_err-n.ensures
-    ∙ digit_too_many c.loop-b.n c.args.digits.now c.loop-b.b-index (search rules) (omega (arith, c.in_err-n.ensures, c.in_ok-checked_mul.ensures))
-    ∙ c.loop-b.invariant.1
-
-pub loop-b-preserved : goal.loop-b-preserved
-loop-b-preserved c =
-    let d = decimal (get_or c.args.digits.now c.loop-b.b-index 0) c.in_ok-digit.digit (search rules) (search rules) in (
-      search rules,
-      digit_more c.loop-b.n c.args.digits.now c.loop-b.b-index c.in_ok-n.n (search rules) d.0 d.1 (omega (arith, c.in_ok-n.ensures, c.in_ok-checked_mul.ensures))
-          ∙ c.loop-b.invariant.1,
-    )
+pub returns-in_err-ok : goal.returns-in_err-ok
+returns-in_err-ok c l = c.from_residual.ensures ∙ no_text c.args.digits.now (search rules)
 
 pub returns : goal.returns
-returns c = digits_end c.loop-b.n c.args.digits.now c.loop-b.b-index c.loop-b.invariant.0 (search rules) ∙ c.loop-b.invariant.1
+returns c l =
+    let same : c.in_ok-ok.field-0.now ≡ c.args.digits.now = search rules in
+    let reads : ParsesUnsigned 64 10 c.in_ok-ok.field-0.now c.parse.result = c.parse.ensures.value.0 in
+    let plus : get_or c.args.digits.now 0 0 ≢ 43 = search rules in
+    c.ok-2.ensures.value ∙ parsed c.args.digits.now c.parse.result (rw same at reads) plus l

@@ -1,3 +1,4 @@
 pub mod Making
 pub mod Steps
+pub mod Writes
 pub mod Servers

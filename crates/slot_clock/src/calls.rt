@@ -5,6 +5,7 @@ ghost use Rattle.slot_clock.specs.Held.{weights_of, next_of, held_state, Room, c
 
 use crate::held::Held;
 use crate::layout::Layout;
+use crate::limits::{LAST_TICK, LONGEST, MOST_OWED, SESSIONS};
 use crate::refusal::ClockRefusal;
 use arrayvec::ArrayVec;
 
@@ -27,7 +28,7 @@ impl Held {
         ensures fresh { IfOk result (λ h. (h.cursor ≡ 0) × (next_of h ≡ replicate (length (weights_of h)) 0)) }
     {
         let layout = Layout::make(weights)?;
-        let mut next = ArrayVec::from([0; 64]);
+        let mut next = ArrayVec::from([0; SESSIONS]);
         next.truncate(weights.len());
         Ok(Held {
             layout,
@@ -46,10 +47,10 @@ impl Held {
         let Some(next) = self.next.get(session as usize) else {
             return Err(ClockRefusal::UnknownSession);
         };
-        if size == 0 || size > 65535 {
+        if size == 0 || size > LONGEST {
             return Err(ClockRefusal::Size);
         }
-        if self.owed + size > 67107840 {
+        if self.owed + size > MOST_OWED {
             return Err(ClockRefusal::TooMuchOwed);
         }
         Ok(self.cursor.max(*next))
@@ -71,7 +72,7 @@ impl Held {
     pub fn lasts(&self, ticks: u64) -> Result<(), ClockRefusal>
         ensures { MatchResult result (λ _. self.now.ticks + ticks ≤ 17592186044416) (λ e. (Err e ≡ run_answer (held_state self.now) ticks) × (held_state self.now ≡ run_after (held_state self.now) ticks)) }
     {
-        if ticks > 17592186044416 - self.ticks {
+        if ticks > LAST_TICK - self.ticks {
             return Err(ClockRefusal::TicksPastEnd);
         }
         Ok(())

@@ -5,14 +5,15 @@ ghost use Rattle.tick_machine.specs.Owed.{owed_slots};
 ghost use Rattle.slot_clock.specs.Walk.{Tops};
 
 use crate::layout::Layout;
+use crate::limits::SESSIONS;
 use arrayvec::ArrayVec;
 
 #[derive(Drop)]
 pub struct Held {
-    pub layout: Layout<64>,
+    pub layout: Layout<SESSIONS>,
     // for each session one more than the highest slot that it ever got; beside the weights, and not in one list with them,
     // since those stay as they are made and all that is said of the layout is said of them alone
-    pub next: ArrayVec<u64, 64>,
+    pub next: ArrayVec<u64, SESSIONS>,
     pub cursor: u64,
     pub ticks: u64,
     // the number of bytes owed in all

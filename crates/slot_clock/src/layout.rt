@@ -7,6 +7,7 @@ ghost use Rattle.slot_clock.specs.Calls.{no_zero, made_answer};
 ghost use Rattle.slot_clock.specs.Layout.{Tells, counted, whole as whole_weight, part, place};
 ghost use Rattle.slot_clock.specs.Walk.{below};
 
+use crate::limits::{HEAVIEST, SESSIONS};
 use crate::refusal::ClockRefusal;
 use arrayvec::ArrayVec;
 
@@ -26,7 +27,7 @@ fn round_of(weights: &[u64]) -> Option<u64>
 {
     let mut sum = 0;
     for w in weights {
-        if *w == 0 || *w > 4096 - sum {
+        if *w == 0 || *w > HEAVIEST - sum {
             return None;
         }
         sum += *w;
@@ -34,9 +35,9 @@ fn round_of(weights: &[u64]) -> Option<u64>
     Some(sum)
 }
 
-impl Layout<64> {
+impl Layout<SESSIONS> {
     // The layout for these weights, or why no clock has them.
-    pub fn make(weights: &[u64]) -> Result<Layout<64>, ClockRefusal>
+    pub fn make(weights: &[u64]) -> Result<Layout<SESSIONS>, ClockRefusal>
         ensures { MatchResult result (λ l. (l.weights.items ≡ weights.now) × (l.slots ≤ 4096) × (no_zero weights.now ≡ true)) (λ e. made_answer weights.now ≡ Err e) }
     {
         if weights.is_empty() {

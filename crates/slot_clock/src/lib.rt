@@ -6,6 +6,7 @@ pub mod calls;
 pub mod clock;
 pub mod held;
 pub mod layout;
+pub mod limits;
 pub mod refusal;
 pub mod step;
 pub mod theorems;

@@ -1,12 +1,10 @@
-use Rattle.std.proofs.Common.{◌≡◌, ◌+◌, length, refl, sym, ap, ◌∙◌, subst, arith, length-set}
-use Rattle.std.specs.Prelude.{slice_set}
-use Rattle.std.specs.List.{refill}
-use Rattle.arrayvec.proofs.ArrayVecLemmas.{items-with_items}
+use Rattle.std.proofs.Common.{◌+◌, refl, sym, ap, ◌∙◌, subst, arith}
 use Rattle.tick_machine.specs.Owed.{shown_round}
 use Rattle.slot_clock.specs.State.{state_of}
 use Rattle.slot_clock.specs.Sound.{Sound}
 use Rattle.slot_clock.specs.Held.{weights_of, held_state}
 use Rattle.slot_clock.specs.Holding.{held_stamp, held_added, held_answer, held_after}
+use Rattle.slot_clock.proofs.Writes.{written}
 use Rattle.slot_clock.proofs.held.Held.grant.Goals as goal
 
 pub overflow_add-stamp : goal.overflow_add-stamp
@@ -17,9 +15,7 @@ invariant_of-self c =
     let h = c.args.self.now in
     let i = c.args.session in
     let x = c.args.stamp + 1 in
-    let seen = c.deref_mut.ensures.value in
-    let e : refill (length h.next.items) h.next.items (slice_set c.deref_mut.result.now i x) ≡ slice_set h.next.items i x
-    = items-with_items h.next (slice_set c.deref_mut.result.now i x) (length-set c.deref_mut.result.now i x ∙ ap length seen) ∙ ap (λ xs. slice_set xs i x) seen in
+    let e = written h.next c.deref_mut.result.now i x c.deref_mut.ensures.value in
     let s = subst (λ xs. Sound (weights_of h) xs h.layout.slots h.cursor h.ticks (h.owed + c.args.size)) (sym e)
     (held_added h i c.args.size c.args.from c.requires.room c.args.stamp c.requires.stamp) in
     record { small = c.args.self.now.small; each = c.args.self.now.each; same = s.same; tops = s.tops; paced = s.paced; few = s.few; sum = s.sum; inside = s.inside }
@@ -30,9 +26,7 @@ returns c =
     let h = c.args.self.now in
     let i = c.args.session in
     let x = c.args.stamp + 1 in
-    let seen = c.deref_mut.ensures.value in
-    let e : refill (length h.next.items) h.next.items (slice_set c.deref_mut.result.now i x) ≡ slice_set h.next.items i x
-    = items-with_items h.next (slice_set c.deref_mut.result.now i x) (length-set c.deref_mut.result.now i x ∙ ap length seen) ∙ ap (λ xs. slice_set xs i x) seen in
+    let e = written h.next c.deref_mut.result.now i x c.deref_mut.ensures.value in
     record {
       answer = held_answer h i c.args.size c.args.from c.requires.room c.args.stamp c.requires.stamp;
       after = ap (λ xs. state_of (weights_of h) h.ticks (shown_round (weights_of h) h.cursor xs)) e ∙ held_after h i c.args.size c.args.from c.requires.room c.args.stamp c.requires.stamp;

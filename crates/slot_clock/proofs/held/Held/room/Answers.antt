@@ -14,8 +14,8 @@ returns-then-size-eq0 c =
     let h = c.args.self.now in
     no_size h c.args.session c.args.size (omega (arith, c.in-Some.ensures.lookup.3.0, ap length c.deref.ensures.0, h.same)) (⊎_elim (λ e. inl e) (λ p. inr p.1) c.then-size-eq0.either)
 
-pub returns-then-self-size-gt67107840 : goal.returns-then-self-size-gt67107840
-returns-then-self-size-gt67107840 c =
+pub returns-then-self-size-gt-MOST_OWED : goal.returns-then-self-size-gt-MOST_OWED
+returns-then-self-size-gt-MOST_OWED c =
     let h = c.args.self.now in
     let long : 1 ≤ c.args.size = omega (arith, c.if-size-eq0.false) in
-    too_much h c.args.session c.args.size (omega (arith, c.in-Some.ensures.lookup.3.0, ap length c.deref.ensures.0, h.same)) long c.if-size-gt65535.false c.if-self-size-gt67107840.true
+    too_much h c.args.session c.args.size (omega (arith, c.in-Some.ensures.lookup.3.0, ap length c.deref.ensures.0, h.same)) long c.if-size-gt-LONGEST.false c.if-self-size-gt-MOST_OWED.true

@@ -1,5 +1,5 @@
 -- The checks of an arrival. Assumes nothing.
-use Rattle.std.proofs.Common.{◌≡◌, ℕ, ◌+◌, ◌<◌, ◌≤◌, Bool, true, false, cond, ltb, leb, length, Ok, Err, vec_len, Result, sym, refl, ap, ◌∙◌, arith}
+use Rattle.std.proofs.Common.{◌≡◌, ℕ, ◌+◌, ◌<◌, ◌≤◌, Bool, true, false, cond, ltb, leb, length, Ok, Err, vec_len, Result, sym, refl, ap, ◌∙◌, arith, deque_len}
 use lib.ListN.{length-map}
 use Rattle.std.proofs.lemmas.Bool.{lt-ltb, le-ltb, le-leb, cond-true, cond-false}
 use Rattle.waiting_line.specs.declared.line.WaitingLine.{Ghosts as WaitingLine}
@@ -56,7 +56,7 @@ module _ {W S : Type 0} {line : WaitingLine W} {clock : SlotClock S} {c : Config
   pub many_tabled : vec_len l.table ≡ length m.sender.waiting
   many_tabled = l.table.ok.0 ∙ ap length s.table_is ∙ by_number_length m.sender.waiting
 
-  pub many_left : vec_len l.left ≡ length m.desk.left
+  pub many_left : deque_len l.left ≡ length m.desk.left
   many_left = l.left.ok.0 ∙ ap length s.left_is
 
   pub many_out : vec_len l.out ≡ length m.desk.out
@@ -65,7 +65,7 @@ module _ {W S : Type 0} {line : WaitingLine W} {clock : SlotClock S} {c : Config
   pub many_sending : on_line l.line ≡ on_line m.sender.line
   many_sending = ap on_line s.line_is
 
-  pub many_unsettled : vec_len l.table + on_line l.line + vec_len l.left + vec_len l.out ≡ unsettled m
+  pub many_unsettled : vec_len l.table + on_line l.line + deque_len l.left + vec_len l.out ≡ unsettled m
   many_unsettled = omega (arith, many_tabled, many_left, many_out, many_sending)
 
   module _ (i n : ℕ) (known : i < vec_len l.sessions) (some : n ≡ 0 → ⊥) (short : n ≤ l.largest) where
@@ -95,8 +95,8 @@ module _ {W S : Type 0} {line : WaitingLine W} {clock : SlotClock S} {c : Config
       roomy : ltb (length m.sender.waiting) c.capacity ≡ true
       roomy = err_ok (ltb (length m.sender.waiting) c.capacity) u (room ∙ room_is)
 
-      pub crowded_refused : 1024 ≤ vec_len l.table + on_line l.line + vec_len l.left + vec_len l.out → Err TooManyUnsettled ≡ admission c i n m
+      pub crowded_refused : 1024 ≤ vec_len l.table + on_line l.line + deque_len l.left + vec_len l.out → Err TooManyUnsettled ≡ admission c i n m
       crowded_refused h = before _ (cond-true (ltb (length m.sender.waiting) c.capacity) _ _ roomy ∙ cond-false (ltb (unsettled m) 1024) _ _ (le-ltb _ _ (omega (arith, many_unsettled))))
 
-      pub all_admitted : vec_len l.table + on_line l.line + vec_len l.left + vec_len l.out < 1024 → Ok tt ≡ admission c i n m
+      pub all_admitted : vec_len l.table + on_line l.line + deque_len l.left + vec_len l.out < 1024 → Ok tt ≡ admission c i n m
       all_admitted h = before _ (cond-true (ltb (length m.sender.waiting) c.capacity) _ _ roomy ∙ cond-true (ltb (unsettled m) 1024) _ _ (lt-ltb _ _ (omega (arith, many_unsettled))))

@@ -1,5 +1,5 @@
 -- An arrival goes as promised. Assumes nothing.
-use Rattle.std.proofs.Common.{◌≡◌, ℕ, zero, suc, ◌+◌, ◌-◌, ◌^◌, ◌<◌, ◌≤◌, min, max, false, cond, ◌&&◌, eqb, ltb, leb, List, [], ◌∷◌, ◌++◌, map, length, get_or, is_ok, Ok, Err, vec_items, vec_len, Result, sym, refl, ap, ◌∙◌, subst, arith}
+use Rattle.std.proofs.Common.{◌≡◌, ℕ, zero, suc, ◌+◌, ◌-◌, ◌^◌, ◌<◌, ◌≤◌, min, max, false, cond, ◌&&◌, eqb, ltb, leb, List, [], ◌∷◌, ◌++◌, map, length, get_or, is_ok, Ok, Err, vec_items, vec_len, Result, sym, refl, ap, ◌∙◌, subst, arith, deque_items}
 use Rattle.std.proofs.lemmas.Bool.Decides.{nat_tests}
 use Rattle.std.proofs.lemmas.Bool.{cond_both, cond-true, cond-false, lt-ltb, le-leb, ne_eqb, and_from, or_from}
 use Rattle.waiting_line.specs.declared.line.WaitingLine.{Ghosts as WaitingLine}
@@ -251,7 +251,7 @@ module _ {W S : Type 0} {line : WaitingLine W} {clock : SlotClock S} {c : Config
               count_is = omega (arith, ei, x.count_is, (reached_small c h.drafted calls).count, (reached_small c h.drafted calls).clock);
               line_is = el ∙ x.line_is;
               table_is = et ∙ (λ k. x.table_is k ++ new_is k ∷ []) ∙ sym (by_number_accepted p m.sender.waiting low);
-              left_is = ap vec_items ef ∙ x.left_is;
+              left_is = ap deque_items ef ∙ x.left_is;
               out_is = ap vec_items eo ∙ x.out_is;
               filed_is = eg ∙ x.filed_is;
               returned_is = er ∙ x.returned_is;

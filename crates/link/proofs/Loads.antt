@@ -1,5 +1,5 @@
 -- What a link shows when its line takes a packet. Assumes nothing.
-use Rattle.std.proofs.Common.{◌≡◌, ℕ, ◌≤◌, List, [], ◌∷◌, map, get_or, Some, vec_items, vec_len, sym, refl, ap, ◌∙◌, subst, arith, None}
+use Rattle.std.proofs.Common.{◌≡◌, ℕ, ◌≤◌, List, [], ◌∷◌, map, get_or, Some, vec_items, vec_len, sym, refl, ap, ◌∙◌, subst, arith, None, deque_items}
 use Rattle.std.specs.List.{remove}
 use Rattle.waiting_line.specs.declared.line.WaitingLine.{Ghosts as WaitingLine}
 use Rattle.slot_clock.specs.declared.clock.SlotClock.{Ghosts as SlotClock}
@@ -77,7 +77,7 @@ module _ {W S : Type 0} {line : WaitingLine W} {clock : SlotClock S} {c : Config
       count_is = ei ∙ s.count_is;
       line_is = el ∙ (λ x. sending (same x) (s.clock_is x) (same x).size) ∙ ap (λ (x : Sender). x.line) (sym n.loads);
       table_is = et ∙ ap (λ xs. remove xs i) table ∙ stands.1 ∙ ap (λ (x : Sender). by_number x.waiting) (sym n.loads);
-      left_is = ap vec_items ef ∙ s.left_is;
+      left_is = ap deque_items ef ∙ s.left_is;
       out_is = ap vec_items eo ∙ s.out_is;
       filed_is = eg ∙ s.filed_is;
       returned_is = er ∙ s.returned_is;

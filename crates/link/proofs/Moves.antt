@@ -1,5 +1,5 @@
 -- A clock move goes as promised. Assumes nothing.
-use Rattle.std.proofs.Common.{◌≡◌, ℕ, ◌+◌, ◌-◌, ◌<◌, ◌≤◌, List, ◌∷◌, length, replicate, Ok, Err, vec_len, Result, sym, refl, ap, ◌∙◌, subst, arith}
+use Rattle.std.proofs.Common.{◌≡◌, ℕ, ◌+◌, ◌-◌, ◌<◌, ◌≤◌, List, ◌∷◌, length, replicate, Ok, Err, Result, sym, refl, ap, ◌∙◌, subst, arith, deque_len}
 use Rattle.waiting_line.specs.declared.line.WaitingLine.{Ghosts as WaitingLine}
 use Rattle.slot_clock.specs.declared.clock.SlotClock.{Ghosts as SlotClock}
 use Rattle.tick_machine.specs.declared.refusal.Refusal.{Refusal}
@@ -45,7 +45,7 @@ module _ {W S : Type 0} {line : WaitingLine W} {clock : SlotClock S} {c : Config
     unfolding m
     past_goes le less = refused_move PastTheEnd (move_past c t m (omega (arith, h.shown.clock_is)) less)
 
-    pub moved_goes : (l' : Link W S) (n : ℕ) → l.clock ≤ t → t ≤ last_tick → l'.clock ≡ t → n ≡ vec_len l'.left - vec_len l.left
+    pub moved_goes : (l' : Link W S) (n : ℕ) → l.clock ≤ t → t ≤ last_tick → l'.clock ≡ t → n ≡ deque_len l'.left - deque_len l.left
         → Shown line clock c (ticks c (l'.clock - l.clock) (after c calls)) l'
         → Goes line clock c calls l (MoveTo t) (told (Moved t) (Ok n)) l'
     unfolding m

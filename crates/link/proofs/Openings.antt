@@ -1,5 +1,5 @@
 -- An opening goes as promised. Assumes nothing.
-use Rattle.std.proofs.Common.{◌≡◌, ℕ, zero, suc, ◌≤◌, true, ◌&&◌, ltb, leb, List, [], ◌∷◌, map, length, replicate, Ok, vec_items, vec_len, sym, refl, ap, ◌∙◌, arith}
+use Rattle.std.proofs.Common.{◌≡◌, ℕ, zero, suc, ◌≤◌, true, ◌&&◌, ltb, leb, List, [], ◌∷◌, map, length, replicate, Ok, vec_items, vec_len, sym, refl, ap, ◌∙◌, arith, deque_items}
 use lib.ListN.{length-replicate}
 use Rattle.std.proofs.lemmas.Bool.{lt-ltb, le-leb, and_from, cond-true}
 use Rattle.waiting_line.specs.declared.line.WaitingLine.{Ghosts as WaitingLine}
@@ -54,7 +54,7 @@ module _ {W S : Type 0} {line : WaitingLine W} {clock : SlotClock S} {c : Config
             count_is = o.count_is;
             line_is = o.line_is;
             table_is = ap vec_items o.table_is ∙ none_there _ (sym d.table.ok.0 ∙ d.untabled);
-            left_is = ap vec_items o.left_is ∙ none_there _ (sym d.left.ok.0 ∙ d.unlisted);
+            left_is = ap deque_items o.left_is ∙ none_there _ (sym d.left.ok.0 ∙ d.unlisted);
             out_is = ap vec_items o.out_is ∙ none_there _ (sym d.out.ok.0 ∙ d.unnoted);
             filed_is = o.filed_is;
             returned_is = o.returned_is;

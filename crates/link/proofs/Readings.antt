@@ -1,5 +1,5 @@
 -- Figures and totals are read as promised. Assumes nothing.
-use Rattle.std.proofs.Common.{◌≡◌, ℕ, zero, suc, ◌+◌, ◌-◌, ◌^◌, ◌<◌, ◌≤◌, min, eqb, ltb, List, [], ◌∷◌, map, length, get_or, take, ℤ, pos, ◌+ℤ◌, ◌-ℤ◌, ◌<ℤ◌, Ok, Err, vec_items, vec_len, sym, refl, ap, ◌∙◌, arith}
+use Rattle.std.proofs.Common.{◌≡◌, ℕ, zero, suc, ◌+◌, ◌-◌, ◌^◌, ◌<◌, ◌≤◌, min, eqb, ltb, List, [], ◌∷◌, map, length, get_or, take, ℤ, pos, ◌+ℤ◌, ◌-ℤ◌, ◌<ℤ◌, Ok, Err, vec_items, vec_len, sym, refl, ap, ◌∙◌, arith, deque_len}
 use Rattle.std.proofs.lemmas.Bool.Decides.{nat_tests}
 use Rattle.std.proofs.lemmas.Int.{ints}
 use Rattle.std.proofs.lemmas.List.{take_more, get_or-map}
@@ -59,7 +59,7 @@ getD_from f a (suc n) (suc i) h = getD_from f (suc a) n i (omega arith) ∙ ap f
 module _ {W S : Type 0} {line : WaitingLine W} {clock : SlotClock S} {c : Config} {calls : List Call} {l : Link W S}
     (h : Led line clock c calls l) where
   -- a reading leaves the machine as it is
-  pub totals_goes : (t : Totals) → t.waiting ≡ length (line.pairs l.waiting) → t.sending ≡ on_line l.line → t.left ≡ vec_len l.left → t.out ≡ vec_len l.out → t.filed ≡ l.filed → t.returned ≡ l.returned
+  pub totals_goes : (t : Totals) → t.waiting ≡ length (line.pairs l.waiting) → t.sending ≡ on_line l.line → t.left ≡ deque_len l.left → t.out ≡ vec_len l.out → t.filed ≡ l.filed → t.returned ≡ l.returned
       → Goes line clock c calls l AskTotals (TotalsAre t) l
   totals_goes t ew es el eo ef er =
       let s = h.shown in

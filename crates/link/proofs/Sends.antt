@@ -1,5 +1,5 @@
 -- What a link shows when bytes of the packet on its line are sent. Assumes nothing.
-use Rattle.std.proofs.Common.{◌≡◌, ℕ, ◌+◌, ◌-◌, ◌^◌, ◌<◌, ◌≤◌, List, [], ◌∷◌, ◌++◌, map, get_or, vec_items, vec_len, sym, ap, ◌∙◌, subst, arith, Some, None}
+use Rattle.std.proofs.Common.{◌≡◌, ℕ, ◌+◌, ◌-◌, ◌^◌, ◌<◌, ◌≤◌, List, [], ◌∷◌, ◌++◌, map, get_or, vec_items, vec_len, sym, ap, ◌∙◌, subst, arith, Some, None, deque_items}
 use Rattle.waiting_line.specs.declared.line.WaitingLine.{Ghosts as WaitingLine}
 use Rattle.slot_clock.specs.declared.clock.SlotClock.{Ghosts as SlotClock}
 use Rattle.tick_machine.specs.declared.packet.Packet.{Packet}
@@ -33,7 +33,7 @@ module _ {W S : Type 0} {line : WaitingLine W} {clock : SlotClock S} {c : Config
   pub send_shown : (l' : Link W S)
       → map (λ x. x.sent) (vec_items l'.sessions) ≡ raise p.session k (map (λ x. x.sent) (vec_items l.sessions))
       → map (λ x. x.accepted) (vec_items l'.sessions) ≡ map (λ x. x.accepted) (vec_items l.sessions) → vec_len l'.sessions ≡ vec_len l.sessions
-      → l'.line ≡ line_after k (sending p st n) → vec_items l'.left ≡ joined (leaver_after l.clock k (sending p st n)) (vec_items l.left)
+      → l'.line ≡ line_after k (sending p st n) → deque_items l'.left ≡ joined (leaver_after l.clock k (sending p st n)) (deque_items l.left)
       → l'.waiting ≡ l.waiting → l'.slots ≡ l.slots → l'.number ≡ l.number → l'.largest ≡ l.largest → l'.clock ≡ l.clock → l'.count ≡ l.count
       → l'.table ≡ l.table → l'.out ≡ l.out → l'.filed ≡ l.filed → l'.returned ≡ l.returned
       → Shown line clock c (send_bytes k m) l'

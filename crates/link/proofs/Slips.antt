@@ -1,5 +1,5 @@
 -- Collections and settlements go as promised. Assumes nothing.
-use Rattle.std.proofs.Common.{◌≡◌, ℕ, zero, suc, ◌+◌, ◌<◌, ◌≤◌, min, true, false, eqb, List, [], ◌∷◌, ◌++◌, map, length, get_or, Some, None, Ok, Err, vec_items, vec_len, Result, sym, refl, ap, ◌∙◌, subst, arith}
+use Rattle.std.proofs.Common.{◌≡◌, ℕ, zero, suc, ◌+◌, ◌<◌, ◌≤◌, min, true, false, eqb, List, [], ◌∷◌, ◌++◌, map, length, get_or, Option, Some, None, Ok, Err, vec_items, vec_len, Result, sym, refl, ap, ◌∙◌, subst, arith, deque_items, deque_len, drop}
 use Rattle.std.proofs.lemmas.Bool.{eq-eqb, ne_eqb, or_left, or_right, or_from, cond-true, cond-false}
 use Rattle.std.specs.List.{remove}
 use Rattle.waiting_line.specs.declared.line.WaitingLine.{Ghosts as WaitingLine}
@@ -86,7 +86,7 @@ counted_returned l l' w e f r = subst (λ x. Counted x l l') (sym e) (f, r)
 -- the first of the left list
 record First (ds : List Departed) (d : Departed) : Type 0 where
   first_is : first ds ≡ Some d
-  rest_is : remove ds 0 ≡ rest ds
+  rest_is : drop 1 ds ≡ rest ds
   handed_is : (out : List ℕ) → handed ds out ≡ out ++ d.packet.number ∷ []
 
 one_left : (ds : List Departed) (d : Departed) → 1 ≤ length ds → d ≡ get_or ds 0 d → First ds d
@@ -97,7 +97,7 @@ module _ {W S : Type 0} {line : WaitingLine W} {clock : SlotClock S} {c : Config
     (h : Led line clock c calls l) where
   -- the same but for the desk
   desk_shown : (f : Desk → Desk) (l' : Link W S)
-      → vec_items l'.left ≡ (f (after c calls).desk).left → vec_items l'.out ≡ (f (after c calls).desk).out → l'.filed ≡ (f (after c calls).desk).filed → l'.returned ≡ (f (after c calls).desk).returned
+      → deque_items l'.left ≡ (f (after c calls).desk).left → vec_items l'.out ≡ (f (after c calls).desk).out → l'.filed ≡ (f (after c calls).desk).filed → l'.returned ≡ (f (after c calls).desk).returned
       → l'.waiting ≡ l.waiting → l'.slots ≡ l.slots → l'.number ≡ l.number → l'.largest ≡ l.largest → l'.sessions ≡ l.sessions → l'.clock ≡ l.clock → l'.count ≡ l.count → l'.line ≡ l.line → l'.table ≡ l.table
       → Shown line clock c (with_desk f (after c calls)) l'
   desk_shown f l' ef eo eg er ew es en em ev ek ei el et =
@@ -121,25 +121,31 @@ module _ {W S : Type 0} {line : WaitingLine W} {clock : SlotClock S} {c : Config
         returned_is = er;
       }
 
-  pub none_collected : vec_len l.left ≡ 0 → Goes line clock c calls l Collect (collected_as None) l
-  none_collected e =
+  pub none_collected : (o : Option Slip) → o ≡ None → deque_len l.left ≡ 0 → (l' : Link W S)
+      → deque_items l'.left ≡ drop 1 (deque_items l.left) → vec_items l'.out ≡ vec_items l.out → l'.filed ≡ l.filed → l'.returned ≡ l.returned
+      → l'.waiting ≡ l.waiting → l'.slots ≡ l.slots → l'.number ≡ l.number → l'.largest ≡ l.largest → l'.sessions ≡ l.sessions → l'.clock ≡ l.clock → l'.count ≡ l.count → l'.line ≡ l.line → l'.table ≡ l.table
+      → Goes line clock c calls l Collect (collected_as o) l'
+  none_collected o is e l' ef eo eg er ew es en em ev ek ei el et =
       let s = h.shown in
       let d = (after c calls).desk in
       let z : d.left ≡ [] = none_there d.left (ap length (sym s.left_is) ∙ sym l.left.ok.0 ∙ e) in
       record {
-        led = record { drafted = h.drafted; shown = desk_shown hand_out l (s.left_is ∙ z ∙ ap rest (sym z)) (s.out_is ∙ ap (λ x. handed x d.out) (sym z)) s.filed_is s.returned_is refl refl refl refl refl refl refl refl refl };
-        told = ap (λ x. Collected (slip_of c.link (first x))) (sym z);
-        kept = λ q. refl;
+        led = record {
+          drafted = h.drafted;
+          shown = desk_shown hand_out l' (ef ∙ ap (drop 1) (s.left_is ∙ z) ∙ ap rest (sym z)) (eo ∙ s.out_is ∙ ap (λ x. handed x d.out) (sym z)) (eg ∙ s.filed_is) (er ∙ s.returned_is) ew es en em ev ek ei el et;
+        };
+        told = ap collected_as is ∙ ap (λ x. Collected (slip_of c.link (first x))) (sym z);
+        kept = λ q. let y : ◌≡◌ {A = ℕ} 0 1 = cc in absurd (omega arith);
         law = lawful c h.drafted (Collect ∷ calls);
       }
 
-  pub one_collected : (d : Departed) (says : Slip) → 1 ≤ vec_len l.left → d ≡ get_or (vec_items l.left) 0 d → says.says ≡ slip l.number d → (l' : Link W S)
-      → vec_items l'.left ≡ remove (vec_items l.left) 0 → vec_items l'.out ≡ vec_items l.out ++ d.packet.number ∷ [] → l'.filed ≡ l.filed → l'.returned ≡ l.returned
+  pub one_collected : (d : Departed) (says : Slip) → 1 ≤ deque_len l.left → d ≡ get_or (deque_items l.left) 0 d → says.says ≡ slip l.number d → (l' : Link W S)
+      → deque_items l'.left ≡ drop 1 (deque_items l.left) → vec_items l'.out ≡ vec_items l.out ++ d.packet.number ∷ [] → l'.filed ≡ l.filed → l'.returned ≡ l.returned
       → l'.waiting ≡ l.waiting → l'.slots ≡ l.slots → l'.number ≡ l.number → l'.largest ≡ l.largest → l'.sessions ≡ l.sessions → l'.clock ≡ l.clock → l'.count ≡ l.count → l'.line ≡ l.line → l'.table ≡ l.table
       → Goes line clock c calls l Collect (collected_as (Some says)) l'
   one_collected d says le e is l' ef eo eg er ew es en em ev ek ei el et =
       let s = h.shown in
-      let o = one_left (vec_items l.left) d (omega (arith, l.left.ok.0)) e in
+      let o = one_left (deque_items l.left) d (omega (arith, l.left.ok.0)) e in
       record {
         led = record {
           drafted = h.drafted;
@@ -183,8 +189,8 @@ module _ {W S : Type 0} {line : WaitingLine W} {clock : SlotClock S} {c : Config
       out_is = eo ∙ at_without k (vec_items l.out) i at ∙ ap (without k) h.shown.out_is
 
       closed : (v : Settlement) → Counted v l l' → Shown line clock c (step c (closing v k) (after c calls)) l'
-      closed how.File n = desk_shown (file k) l' (ap vec_items ef ∙ h.shown.left_is) out_is (omega (arith, few.0, h.shown.filed_is, n.0)) (n.1 ∙ h.shown.returned_is) ew es en em ev ek ei el et
-      closed how.Return n = desk_shown (return k) l' (ap vec_items ef ∙ h.shown.left_is) out_is (n.0 ∙ h.shown.filed_is) (omega (arith, few.1, h.shown.returned_is, n.1)) ew es en em ev ek ei el et
+      closed how.File n = desk_shown (file k) l' (ap deque_items ef ∙ h.shown.left_is) out_is (omega (arith, few.0, h.shown.filed_is, n.0)) (n.1 ∙ h.shown.returned_is) ew es en em ev ek ei el et
+      closed how.Return n = desk_shown (return k) l' (ap deque_items ef ∙ h.shown.left_is) out_is (n.0 ∙ h.shown.filed_is) (omega (arith, few.1, h.shown.returned_is, n.1)) ew es en em ev ek ei el et
 
       pub settle_goes : Counted w l l' → Goes line clock c calls l (settling w link k) (settled (granted w) (Ok k)) l'
       settle_goes n = record {

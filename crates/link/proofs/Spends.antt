@@ -1,5 +1,5 @@
 -- What a link shows after a stretch. Assumes nothing.
-use Rattle.std.proofs.Common.{◌≡◌, ℕ, ◌+◌, ◌≤◌, min, List, [], ◌∷◌, map, vec_items, vec_len, sym, refl, ap, ◌∙◌, subst, arith, Some, None}
+use Rattle.std.proofs.Common.{◌≡◌, ℕ, ◌+◌, ◌≤◌, min, List, [], ◌∷◌, map, vec_items, vec_len, sym, refl, ap, ◌∙◌, subst, arith, Some, None, deque_items}
 use Rattle.std.proofs.lemmas.Bool.{cond-true, le-leb}
 use Rattle.waiting_line.specs.declared.line.WaitingLine.{Ghosts as WaitingLine}
 use Rattle.slot_clock.specs.declared.clock.SlotClock.{Ghosts as SlotClock}
@@ -72,7 +72,7 @@ module _ {W S : Type 0} {line : WaitingLine W} {clock : SlotClock S} {c : Config
     count_is = ei ∙ s.count_is;
     line_is = el ∙ s.line_is;
     table_is = ap vec_items et ∙ s.table_is;
-    left_is = ap vec_items ef ∙ s.left_is;
+    left_is = ap deque_items ef ∙ s.left_is;
     out_is = ap vec_items eo ∙ s.out_is;
     filed_is = eg ∙ s.filed_is;
     returned_is = er ∙ s.returned_is;

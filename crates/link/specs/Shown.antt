@@ -1,5 +1,6 @@
 -- What a link shows of the tick machine, given what its waiting line and its slot clock mean. Assumes nothing.
 use Rattle.std.specs.Prelude.{◌≡◌, List, [], ◌∷◌, map, length, vec_items, vec_len}
+use Rattle.std.specs.VecDeque.{deque_items}
 use Rattle.waiting_line.specs.declared.line.WaitingLine.{Ghosts as WaitingLine}
 use Rattle.slot_clock.specs.declared.clock.SlotClock.{Ghosts as SlotClock}
 use Rattle.waiting_line.specs.declared.pair.Pair.{Pair}
@@ -34,7 +35,7 @@ module _ {W S : Type 0} (line : WaitingLine W) (clock : SlotClock S) where
     pub count_is : l.count ≡ m.count
     pub line_is : l.line ≡ m.sender.line
     pub table_is : vec_items l.table ≡ by_number m.sender.waiting
-    pub left_is : vec_items l.left ≡ m.desk.left
+    pub left_is : deque_items l.left ≡ m.desk.left
     pub out_is : vec_items l.out ≡ m.desk.out
     pub filed_is : l.filed ≡ m.desk.filed
     pub returned_is : l.returned ≡ m.desk.returned

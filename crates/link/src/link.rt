@@ -1,9 +1,11 @@
 // An open link, over any waiting line and any slot clock.
 ghost use Rattle.std.specs.Prelude.{ℕ, ◌+◌, ◌≤◌, vec_len, vec_capacity};
 ghost use Rattle.tick_machine.specs.Life.{on_line};
+ghost use Rattle.std.specs.VecDeque.{deque_len, deque_capacity};
 ghost use Rattle.link.specs.Busy.{at_work};
 
 use crate::session::Session;
+use std::collections::VecDeque;
 use tick_machine::packet::{Departed, Packet, Sending};
 
 // Its memory was had when its draft was made: no call asks for more.
@@ -20,14 +22,14 @@ pub struct Link<W, S> {
     line: Option<Sending>,
     // the waiting packets, by rising numbers
     table: Vec<Packet>,
-    left: Vec<Departed>,
+    left: VecDeque<Departed>,
     out: Vec<u64>,
     filed: u64,
     returned: u64,
     ghost tabled: { 1024 ≤ vec_capacity table },
-    ghost listed: { 1024 ≤ vec_capacity left },
+    ghost listed: { 1024 ≤ deque_capacity left },
     ghost noted: { 1024 ≤ vec_capacity out },
-    ghost inside: { vec_len table + on_line line + vec_len left + vec_len out ≤ 1024 },
+    ghost inside: { vec_len table + on_line line + deque_len left + vec_len out ≤ 1024 },
     ghost busy: { 1 ≤ at_work line },
 }
 

@@ -11,6 +11,7 @@ use crate::limits::{HEAVIEST, SESSIONS, UNSETTLED};
 use crate::link::Link;
 use slot_clock::clock::SlotClock;
 use std::alloc::Global;
+use std::collections::VecDeque;
 use tick_machine::call::Making;
 use tick_machine::refusal::Refusal;
 use waiting_line::line::WaitingLine;
@@ -46,7 +47,7 @@ impl<W: WaitingLine> Draft<W> {
         let mut weights = Vec::with_capacity(heap, SESSIONS)?;
         let sessions = Vec::with_capacity(heap, SESSIONS)?;
         let table = Vec::with_capacity(heap, UNSETTLED)?;
-        let left = Vec::with_capacity(heap, UNSETTLED)?;
+        let left = VecDeque::with_capacity(heap, UNSETTLED)?;
         let out = Vec::with_capacity(heap, UNSETTLED)?;
         weights.push_reserved(making.weight);
         Ok(Draft {

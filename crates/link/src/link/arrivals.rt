@@ -1,5 +1,6 @@
 // Packets come in.
 ghost use Rattle.std.specs.Prelude.{◌≡◌, ℕ, ◌+◌, ◌<◌, ◌≤◌, vec_len, OnOk};
+ghost use Rattle.std.specs.VecDeque.{deque_len};
 ghost use Rattle.tick_machine.specs.Machine.{Config, Machine};
 ghost use Rattle.tick_machine.specs.Life.{on_line, told, arrived};
 ghost use Rattle.tick_machine.specs.declared.call.Call.TheVariants.{Arrive};
@@ -26,7 +27,7 @@ fn told_of(packet: Packet) -> (u64, u64, u64)
 impl<W: WaitingLine, S: SlotClock> Link<W, S> {
     // How many packets are unsettled: waiting, sending, left or out.
     fn unsettled(&self) -> usize
-        ensures { result ≡ vec_len self.now.table + on_line self.now.line + vec_len self.now.left + vec_len self.now.out }
+        ensures { result ≡ vec_len self.now.table + on_line self.now.line + deque_len self.now.left + vec_len self.now.out }
     {
         self.table.len() + self.sending() as usize + self.left.len() + self.out.len()
     }
@@ -34,7 +35,7 @@ impl<W: WaitingLine, S: SlotClock> Link<W, S> {
     // The checks of an arrival, in their order.
     fn admit(&self, session: u64, size: u64) -> Result<(), Refusal>
         ensures value { (c : Config) (m : Machine) → Shown W.WaitingLine S.SlotClock c m self.now → result ≡ admission c session size m }
-        ensures room { OnOk result (vec_len self.now.table + on_line self.now.line + vec_len self.now.left + vec_len self.now.out < 1024) }
+        ensures room { OnOk result (vec_len self.now.table + on_line self.now.line + deque_len self.now.left + vec_len self.now.out < 1024) }
     {
         if session >= self.sessions.len() as u64 {
             return Err(Refusal::UnknownSession);

@@ -1,5 +1,6 @@
 // How time passes at a link: stretch by stretch, and never tick by tick.
-ghost use Rattle.std.specs.Prelude.{◌≡◌, ℕ, ◌+◌, ◌-◌, ◌<◌, ◌≤◌, vec_len};
+ghost use Rattle.std.specs.Prelude.{◌≡◌, ℕ, ◌+◌, ◌-◌, ◌<◌, ◌≤◌};
+ghost use Rattle.std.specs.VecDeque.{deque_len};
 ghost use Rattle.tick_machine.specs.Machine.{Config, Machine, ticks};
 ghost use Rattle.link.specs.Stretch.{loaded, reach as reach_of, send_bytes, Carries};
 ghost use Rattle.tick_machine.specs.Life.{told};
@@ -65,7 +66,7 @@ impl<W: WaitingLine, S: SlotClock> Link<W, S> {
                 });
             } else {
                 self.line = None;
-                self.left.push_reserved(Departed {
+                self.left.push_back_reserved(Departed {
                     packet: sending.packet,
                     started: sending.started,
                     left: self.clock,
@@ -90,7 +91,7 @@ impl<W: WaitingLine, S: SlotClock> Link<W, S> {
 
     // How many packets have left since there were so many of them.
     fn left_since(&self, before: usize) -> u64
-        ensures { result ≡ vec_len self.now.left - before }
+        ensures { result ≡ deque_len self.now.left - before }
     {
         self.left.len().saturating_sub(before) as u64
     }

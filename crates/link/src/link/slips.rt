@@ -1,5 +1,6 @@
 // Slips go out and come back.
-ghost use Rattle.std.specs.Prelude.{◌≡◌, ℕ, ◌<◌, IfOk, Ok, Err, MatchResult, nat_lt, vec_len};
+ghost use Rattle.std.specs.Prelude.{◌≡◌, ℕ, ◌+◌, ◌<◌, ◌≤◌, [], ◌∷◌, ◌++◌, drop, slice_index_or, IfOk, Ok, Err, MatchOption, MatchResult, vec_len, vec_capacity};
+ghost use Rattle.std.specs.VecDeque.{deque_len, deque_capacity};
 ghost use Rattle.tick_machine.specs.Machine.{Config, Machine};
 ghost use Rattle.tick_machine.specs.Life.{settlement, settling, granted};
 ghost use Rattle.tick_machine.specs.declared.call.Call.TheVariants.{Collect, File, Return};
@@ -12,29 +13,33 @@ use super::Link;
 use crate::slip::Slip;
 use crate::table::place;
 use slot_clock::clock::SlotClock;
+use std::collections::VecDeque;
 use tick_machine::call::Settlement;
-use tick_machine::packet::SlipCopy;
+use tick_machine::packet::{Departed, SlipCopy};
 use tick_machine::refusal::Refusal;
 use waiting_line::line::WaitingLine;
 
-impl<W: WaitingLine, S: SlotClock> Link<W, S> {
-    // Whether a packet has left that is not handed out yet.
-    fn has_left(&self) -> bool
-        ensures { result ≡ nat_lt 0 (vec_len self.now.left) }
-    {
-        !self.left.is_empty()
-    }
+// The first packet that has left goes out: it leaves the queue, and its number is noted.
+fn hand_out(left: &mut VecDeque<Departed>, out: &mut Vec<u64>) -> Option<Departed>
+    requires { deque_len left.old + vec_len out.old ≤ vec_capacity out.old }
+    ensures first { MatchOption result (deque_len left.old ≡ 0) (λ d. (0 < deque_len left.old) × (d ≡ slice_index_or left.old.items 0 d)) }
+    ensures rest { left.new.items ≡ drop 1 left.old.items }
+    ensures noted { MatchOption result (out.new.items ≡ out.old.items) (λ d. out.new.items ≡ out.old.items ++ d.packet.number ∷ []) }
+    ensures many { deque_len left.new + vec_len out.new ≡ deque_len left.old + vec_len out.old }
+    ensures room { (deque_capacity left.new ≡ deque_capacity left.old) × (vec_capacity out.new ≡ vec_capacity out.old) }
+{
+    let departed = left.pop_front()?;
+    out.push_reserved(departed.packet.number);
+    Some(departed)
+}
 
+impl<W: WaitingLine, S: SlotClock> Link<W, S> {
     // Hands out the first packet that has left: its slip, or none.
     pub fn collect(&mut self) -> Option<Slip>
         ensures { Keeps W.WaitingLine S.SlotClock self.old Collect (collected_as result) self.new }
     {
-        if !self.has_left() {
-            return None;
-        }
-        let departed = self.left.remove(0);
+        let departed = hand_out(&mut self.left, &mut self.out)?;
         let packet = departed.packet;
-        self.out.push_reserved(packet.number);
         let says = SlipCopy {
             link: self.number,
             packet: packet.number,

@@ -2,9 +2,10 @@ use Rattle.std.proofs.Common.{refl, rules}
 use Rattle.link.proofs.Slips.{none_collected, one_collected}
 use Rattle.link.proofs.link.Link.collect.Goals as goal
 
-pub returns-then-not-has_left : goal.returns-then-not-has_left
-returns-then-not-has_left g c f calls h = none_collected h (search rules)
+pub returns-in_err-departed : goal.returns-in_err-departed
+returns-in_err-departed g c f calls h =
+    none_collected h _ (search rules) c.in_err-departed.ensures.first _ c.hand_out.ensures.rest c.in_err-departed.ensures.noted refl refl refl refl refl refl refl refl refl refl refl
 
 pub returns : goal.returns
 returns g c f calls h =
-    one_collected h c.remove-departed.result _ (search rules) c.remove-departed.ensures.value refl _ c.remove-departed.ensures.items c.push_reserved.ensures.items refl refl refl refl refl refl refl refl refl refl refl
+    one_collected h c.in_ok-departed.departed _ c.in_ok-departed.ensures.first.0 c.in_ok-departed.ensures.first.1 refl _ c.hand_out.ensures.rest c.in_ok-departed.ensures.noted refl refl refl refl refl refl refl refl refl refl refl

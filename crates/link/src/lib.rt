@@ -4,7 +4,7 @@
 
 pub mod draft;
 pub mod error;
-mod limits;
+pub mod limits;
 pub mod link;
 pub mod session;
 pub mod slip;

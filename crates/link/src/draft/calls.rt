@@ -7,7 +7,7 @@ ghost use Rattle.link.specs.Drafting.{Drafts, Makes, Added, Unchanged, Opens};
 
 use super::Draft;
 use crate::error::MakeError;
-use crate::limits::{HEAVIEST, SESSIONS, UNSETTLED};
+use crate::limits::{HEAVIEST, LAST_LINK, LONGEST, ROOMIEST, SESSIONS, UNSETTLED};
 use crate::link::Link;
 use slot_clock::clock::SlotClock;
 use std::alloc::Global;
@@ -20,13 +20,13 @@ use waiting_line::line::WaitingLine;
 fn check(making: Making) -> Result<(), Refusal>
     ensures { result ≡ checked (made_of making.number making.largest making.capacity making.weight) }
 {
-    if making.number > 65_535 {
+    if making.number > LAST_LINK {
         return Err(Refusal::LinkNumber);
     }
-    if making.largest == 0 || making.largest > 65_535 {
+    if making.largest == 0 || making.largest > LONGEST {
         return Err(Refusal::Largest);
     }
-    if making.capacity == 0 || making.capacity > 1_024 {
+    if making.capacity == 0 || making.capacity > ROOMIEST {
         return Err(Refusal::Capacity);
     }
     if making.weight == 0 || making.weight > HEAVIEST {

@@ -1,7 +1,8 @@
 -- Collections and settlements go as promised. Assumes nothing.
-use Rattle.std.proofs.Common.{◌≡◌, ℕ, zero, suc, ◌+◌, ◌<◌, ◌≤◌, min, true, false, eqb, List, [], ◌∷◌, ◌++◌, map, length, get_or, Option, Some, None, Ok, Err, vec_items, vec_len, Result, sym, refl, ap, ◌∙◌, subst, arith, deque_items, deque_len, drop}
+use Rattle.std.proofs.Common.{◌≡◌, ℕ, zero, suc, ◌+◌, ◌<◌, ◌≤◌, min, true, false, eqb, List, [], ◌∷◌, ◌++◌, map, length, get_or, Option, Some, None, Ok, Err, vec_items, vec_len, Result, IfOk, MatchOption, MatchResult, sym, refl, ap, ◌∙◌, subst, arith, deque_items, deque_len, drop}
 use Rattle.std.proofs.lemmas.Bool.{eq-eqb, ne_eqb, or_left, or_right, or_from, cond-true, cond-false}
 use Rattle.std.specs.List.{remove}
+use Rattle.std.specs.Option.{ok_or}
 use Rattle.waiting_line.specs.declared.line.WaitingLine.{Ghosts as WaitingLine}
 use Rattle.slot_clock.specs.declared.clock.SlotClock.{Ghosts as SlotClock}
 use Rattle.tick_machine.specs.declared.packet.Departed.{Departed}
@@ -54,6 +55,20 @@ not_out c link k m e a = cond-true (eqb link c.link) _ _ (eq-eqb _ _ e) ∙ cond
 
 pub is_out : (c : Config) (link k : ℕ) (m : Machine) → link ≡ c.link → among k m.desk.out ≡ true → settlement c link k m ≡ Ok k
 is_out c link k m e a = cond-true (eqb link c.link) _ _ (eq-eqb _ _ e) ∙ cond-true (among k m.desk.out) _ _ a
+
+-- what is found is out, and what is not found is refused
+module _ (k : ℕ) (xs : List ℕ) where
+  abbrev pub Placed : Option ℕ → Type 0
+  Placed o = MatchOption o (Nowhere (λ n. n) k xs) (λ i. At (λ n. n) k xs i)
+
+  pub found_at : (o : Option ℕ) → Placed o → IfOk (ok_or o NotOut) (λ i. At (λ n. n) k xs i)
+  found_at None h = tt
+  found_at (Some i) h = h
+
+  pub found_or_not : (c : Config) (link : ℕ) (m : Machine) → link ≡ c.link → xs ≡ m.desk.out → (o : Option ℕ) → Placed o
+      → MatchResult (ok_or o NotOut) (λ _. settlement c link k m ≡ Ok k) (λ e. settlement c link k m ≡ Err e)
+  found_or_not c link m e ex None h = not_out c link k m e (ap (among k) (sym ex) ∙ nowhere_among k xs h)
+  found_or_not c link m e ex (Some i) h = is_out c link k m e (ap (among k) (sym ex) ∙ at_among k xs i h)
 
 -- what a settlement does, where it is granted
 abbrev closing : Settlement → ℕ → Event

@@ -60,10 +60,7 @@ impl<W: WaitingLine, S: SlotClock> Link<W, S> {
         if link != self.number {
             return Err(Refusal::OtherLink);
         }
-        match place(&self.out, packet) {
-            Some(i) => Ok(i),
-            None => Err(Refusal::NotOut),
-        }
+        place(&self.out, packet).ok_or(Refusal::NotOut)
     }
 
     // The packet of the slip is settled so: its number. A refusal hands the slip back.

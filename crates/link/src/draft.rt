@@ -8,8 +8,8 @@ use crate::session::Session;
 use std::collections::VecDeque;
 use tick_machine::packet::{Departed, Packet};
 
-// That a draft is of some configuration is asked where it is needed, and is no invariant here: it speaks of what W means, so that this type would have to
-// ask a bound of W, and whoever names the type with it.
+// That a draft is of some configuration is asked where it is needed, and is no invariant here: it speaks of what W means, and so would ask a bound of W.
+// A type may not ask more of whoever names it than it did, and this one asks no bound of W.
 #[derive(Drop)]
 pub struct Draft<W> {
     pub(crate) waiting: W,
@@ -17,6 +17,7 @@ pub struct Draft<W> {
     pub(crate) largest: u64,
     // the sum of the weights
     pub(crate) round: u64,
+    // a Vec, whose memory is had at the making; the slot clock takes it as a slice
     pub(crate) weights: Vec<u64>,
     // memory for the records that the open link begins with
     pub(crate) sessions: Vec<Session>,
@@ -25,6 +26,7 @@ pub struct Draft<W> {
     pub(crate) out: Vec<u64>,
     ghost weighted: { 64 ≤ vec_capacity weights },
     ghost recorded: { 64 ≤ vec_capacity sessions },
+    // that there is room for so many is said field by field: each of these facts stands once here, and once in the open link
     ghost tabled: { 1024 ≤ vec_capacity table },
     ghost listed: { 1024 ≤ deque_capacity left },
     ghost noted: { 1024 ≤ vec_capacity out },

@@ -20,12 +20,14 @@ pub struct Link<W, S> {
     count: u64,
     // what is sent; none, if the line is free
     line: Option<Sending>,
-    // the waiting packets, by rising numbers
+    // the waiting packets, by rising numbers; searched from the first on, as `place` promises the first place in any list, sorted or not, which no search
+    // by halves could keep
     table: Vec<Packet>,
     left: VecDeque<Departed>,
     out: Vec<u64>,
     filed: u64,
     returned: u64,
+    // that there is room for so many is said field by field: each of these facts stands once here, and once in the draft
     ghost tabled: { 1024 ≤ vec_capacity table },
     ghost listed: { 1024 ≤ deque_capacity left },
     ghost noted: { 1024 ≤ vec_capacity out },

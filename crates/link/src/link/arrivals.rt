@@ -17,7 +17,7 @@ use tick_machine::refusal::Refusal;
 use waiting_line::line::WaitingLine;
 use waiting_line::pair::Pair;
 
-// What is told of a packet that is accepted: its number, its stamp and its latest tick.
+// What is told of a packet that is accepted: its number, its stamp and its latest tick, as three numbers together, for so the rules answer an arrival.
 fn told_of(packet: Packet) -> (u64, u64, u64)
     ensures { result ≡ (packet.number, packet.stamp, packet.latest) }
 {

@@ -35,6 +35,7 @@ pub fn push<T: TotalOrder>(v: &mut Vec<T>, x: T)
 }
 
 // Takes the first, which is the least.
+#[tactic(auto, using(crate::proofs::Changes::taken))]
 pub fn take_first<T: TotalOrder>(v: &mut Vec<T>) -> T
     requires some { 0 < vec_len v.old }
     requires heaped { Heaped T.before v.old.items }

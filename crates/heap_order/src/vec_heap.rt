@@ -136,7 +136,7 @@ impl<T: TotalOrder> Heap<T> {
         push(&mut self.items, x);
     }
 
-    // Takes the first, which is the least, if there is one. (A test first, since that of a vector needs one.)
+    // Takes the first, which is the least, if there is one. (A test first, since the free function needs one.)
     pub fn take_first(&mut self) -> Option<T>
         ensures value { result ≡ slice_get self.old.items 0 }
         ensures least { FirstLeast T.before self.old.items }

@@ -15,6 +15,10 @@ module _ {X : Type 0} (before : X → X → Bool) where
   abbrev pub Heaped : List X → Type 0
   Heaped xs = (k : ℕ) (d : X) → 0 < k → k < length xs → before (slice_index_or xs k d) (slice_index_or xs (parent k) d) ≡ false
 
+  -- the same with one element d for what stands past the end, as an invariant may have it
+  abbrev pub HeapedAt : X → List X → Type 0
+  HeapedAt d xs = (k : ℕ) → 0 < k → k < length xs → before (slice_index_or xs k d) (slice_index_or xs (parent k) d) ≡ false
+
   -- no element is before the first
   abbrev pub FirstLeast : List X → Type 0
   FirstLeast xs = (k : ℕ) (d : X) → k < length xs → before (slice_index_or xs k d) (slice_index_or xs 0 d) ≡ false

@@ -1,12 +1,68 @@
-// A heap in memory that is reserved when it is made: nothing after that allocates.
-ghost use Rattle.std.specs.Prelude.{◌≡◌, ◌+◌, ◌-◌, ◌<◌, false, [], ◌∷◌, ◌++◌, length, option_copied, slice_get, slice_index_or, slice_set, vec_capacity, IfOk, MatchOption};
+// A heap in memory that is reserved when it is made: nothing after that allocates. The free functions serve a `Vec` that lies as
+// a heap and has another owner; `Heap` owns its own, and always is one.
+ghost use Rattle.std.specs.Prelude.{◌≡◌, ◌+◌, ◌-◌, ◌<◌, false, [], ◌∷◌, ◌++◌, length, option_copied, slice_get, slice_index_or, slice_set, vec_len, vec_capacity, IfOk, MatchOption};
 ghost use Rattle.std.specs.List.Sorted.{IsPermutation};
-ghost use Rattle.heap_order.specs.Heaps.{Heaped, FirstLeast};
+ghost use Rattle.heap_order.specs.Heaps.{Heaped, FirstLeast, Heavy};
 
 use crate::order::TotalOrder;
 use crate::sift::{sift_down, sift_up};
 use std::alloc::{AllocError, Global};
 use std::marker::Model;
+
+// Lets the element at `at` sink to its place, after it was put there in place of one that is not after it.
+pub fn lower<T: TotalOrder>(v: &mut Vec<T>, at: usize)
+    requires heavy { Heavy T.before v.old.items at }
+    ensures shuffled { IsPermutation v.old.items v.new.items }
+    ensures heaped { Heaped T.before v.new.items }
+    ensures len { vec_len v.new ≡ vec_len v.old }
+    ensures capacity { vec_capacity v.new ≡ vec_capacity v.old }
+{
+    sift_down(v, at);
+}
+
+// Adds an element. The reserved room has a place for it.
+pub fn push<T: TotalOrder>(v: &mut Vec<T>, x: T)
+    requires room { vec_len v.old < vec_capacity v.old }
+    requires heaped { Heaped T.before v.old.items }
+    ensures shuffled { IsPermutation (v.old.items ++ x ∷ []) v.new.items }
+    ensures heaped { Heaped T.before v.new.items }
+    ensures len { vec_len v.new ≡ vec_len v.old + 1 }
+    ensures capacity { vec_capacity v.new ≡ vec_capacity v.old }
+{
+    let at = v.len();
+    v.push_reserved(x);
+    sift_up(v, at);
+}
+
+// Takes the first, which is the least.
+#[tactic(auto, using(crate::proofs::Changes::taken))]
+pub fn take_first<T: TotalOrder>(v: &mut Vec<T>) -> T
+    requires some { 0 < vec_len v.old }
+    requires heaped { Heaped T.before v.old.items }
+    ensures value { result ≡ slice_index_or v.old.items 0 result }
+    ensures shuffled { IsPermutation v.old.items (result ∷ v.new.items) }
+    ensures heaped { Heaped T.before v.new.items }
+    ensures len { vec_len v.new + 1 ≡ vec_len v.old }
+    ensures capacity { vec_capacity v.new ≡ vec_capacity v.old }
+{
+    let first = v.swap_remove(0);
+    lower(v, 0);
+    first
+}
+
+// Puts x in place of the element at `at`, which x is not before.
+pub fn replace<T: TotalOrder + Drop>(v: &mut Vec<T>, at: usize, x: T)
+    requires within { at < vec_len v.old }
+    requires heaped { Heaped T.before v.old.items }
+    requires later { (d : T) → T.before x (slice_index_or v.old.items at d) ≡ false }
+    ensures shuffled { IsPermutation (slice_set v.old.items at x) v.new.items }
+    ensures heaped { Heaped T.before v.new.items }
+    ensures len { vec_len v.new ≡ vec_len v.old }
+    ensures capacity { vec_capacity v.new ≡ vec_capacity v.old }
+{
+    v[at] = x;
+    lower(v, at);
+}
 
 // A contract sees the elements as they lie, and for how many there is memory.
 #[derive(Drop)]
@@ -77,12 +133,10 @@ impl<T: TotalOrder> Heap<T> {
         ensures len { length self.new.items ≡ length self.old.items + 1 }
         ensures capacity { self.new.capacity ≡ self.old.capacity }
     {
-        let at = self.items.len();
-        self.items.push_reserved(x);
-        sift_up(&mut self.items, at);
+        push(&mut self.items, x);
     }
 
-    // Takes the first, which is the least, if there is one. (A test first, since a vector's `swap_remove` needs an element.)
+    // Takes the first, which is the least, if there is one. (A test first, since the free function needs one.)
     pub fn take_first(&mut self) -> Option<T>
         ensures value { result ≡ slice_get self.old.items 0 }
         ensures least { FirstLeast T.before self.old.items }
@@ -93,9 +147,7 @@ impl<T: TotalOrder> Heap<T> {
         if self.items.is_empty() {
             return None;
         }
-        let first = self.items.swap_remove(0);
-        sift_down(&mut self.items, 0);
-        Some(first)
+        Some(take_first(&mut self.items))
     }
 }
 
@@ -108,7 +160,6 @@ impl<T: TotalOrder + Drop> Heap<T> {
         ensures len { length self.new.items ≡ length self.old.items }
         ensures capacity { self.new.capacity ≡ self.old.capacity }
     {
-        self.items[at] = x;
-        sift_down(&mut self.items, at);
+        replace(&mut self.items, at, x);
     }
 }

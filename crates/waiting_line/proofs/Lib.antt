@@ -1,3 +1,4 @@
 pub mod Heaps
+pub mod Puts
 pub mod Sharing
 pub mod Searches

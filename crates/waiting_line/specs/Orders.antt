@@ -1,7 +1,8 @@
 -- Lists of pairs whose stamps rise: a pair's place among them, and a put. Assumes nothing.
-use Rattle.std.specs.Prelude.{◌≡◌, ℕ, zero, suc, ◌<◌, ◌≤◌, true, false, List, [], ◌∷◌, length, get_or, ◌==◌, nat_lt, refl}
+use Rattle.std.specs.Prelude.{◌≡◌, ℕ, zero, suc, ◌+◌, ◌<◌, ◌≤◌, true, false, List, [], ◌∷◌, length, get_or, ◌==◌, nat_lt, slice_index_or, refl}
 use Rattle.std.proofs.Common.{sym, ap, subst, ◌∙◌, not-suc-le-zero, le_of_suc-le-suc, arith}
 use Rattle.std.specs.List.{insert as inserted}
+use Rattle.std.proofs.lemmas.List.{get_or_default}
 use Rattle.std.proofs.lemmas.Bool.Decides.{nat_tests}
 use Rattle.std.proofs.lemmas.Bool.{ltb-true, lt-ltb, le-ltb, ne_eqb, eq-eqb, and_parts, and_from, or_from, or_parts, or_left, or_right, cond-true, cond-false, cond_both}
 use Rattle.tick_machine.specs.Lists.{All, none, more, Rising, insert}
@@ -44,6 +45,10 @@ order_at (p ∷ ps) zero zero h le l = omega arith
 order_at (p ∷ ps) zero (suc k) h le l = let q = above_at p.stamp ps k (and_parts (all_above p.stamp ps) (in_order ps) h).0 (le_of_suc-le-suc l) in omega arith
 order_at (p ∷ ps) (suc j) zero h le l = absurd (not-suc-le-zero le)
 order_at (p ∷ ps) (suc j) (suc k) h le l = order_at ps j k (and_parts (all_above p.stamp ps) (in_order ps) h).1 (le_of_suc-le-suc le) (le_of_suc-le-suc l)
+
+-- an element that was read, at the default of the definitions
+pub read_at : (ps : List Pair) (i : ℕ) (p : Pair) → i < length ps → p ≡ slice_index_or ps i p → (get_or ps i blank).stamp ≡ p.stamp
+read_at ps i p l e = ap stamp_of (get_or_default ps i blank p l ∙ sym e)
 
 -- the pair stands at the place whose earlier stamps are less and whose own is more
 pub placed : (ps : List Pair) (i : ℕ) (p : Pair) → i ≤ length ps → ((k : ℕ) → k < i → (get_or ps k blank).stamp < p.stamp) → (i < length ps → p.stamp < (get_or ps i blank).stamp) → inserted ps i p ≡ insert stamp_of p ps
@@ -89,6 +94,12 @@ put_in_order p (q ∷ ps) o f =
   where
     apart : (a b : ℕ) → nat_lt a b ≡ false → (a == b) ≡ false → b < a
     apart a b e f = grind (arith, nat_tests)
+
+-- a put makes the list longer by one
+pub length_put : (p : Pair) (ps : List Pair) → length (insert stamp_of p ps) ≡ length ps + 1
+length_put p [] = refl
+length_put p (q ∷ ps) = cond_both (nat_lt p.stamp q.stamp) _ _ (λ (ys : List Pair). length ys ≡ suc (length ps) + 1)
+    (λ e. omega arith) (λ e. omega (arith, length_put p ps))
 
 -- the order of a sorted line after a put
 pub put_kept : (p : Pair) (ps ys : List Pair) → ys ≡ insert stamp_of p ps → in_order ps ≡ true → holds p.stamp ps ≡ false → in_order ys ≡ true

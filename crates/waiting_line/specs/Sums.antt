@@ -1,16 +1,49 @@
--- Pairs in order of their stamps, and counts of pairs. Sorting only moves the pairs. Assumes nothing.
-use Rattle.std.specs.Prelude.{◌≡◌, ℕ, ◌+◌, ◌≤◌, Bool, true, false, cond, ◌||◌, List, [], ◌∷◌, length, count_by, ◌==◌, nat_lt, refl}
-use Rattle.std.proofs.Common.{sym, ap, ◌∙◌, arith}
+-- Pairs in order of their stamps, their sums and their counts. Sorting only moves the pairs, and a list in order is known by its
+-- sums. Assumes nothing.
+use Rattle.std.specs.Prelude.{◌≡◌, ℕ, ◌+◌, ◌<◌, ◌≤◌, Bool, true, false, cond, ◌||◌, List, [], ◌∷◌, ◌++◌, length, count_by, sum_by, ◌==◌, ◌≢◌, nat_lt, refl}
+use Rattle.std.proofs.Common.{sym, ap, ◌∙◌, ⊎_elim, arith}
 use Rattle.std.specs.List.{list_any}
 use Rattle.std.specs.List.Sorted.{IsPermutation}
 use Rattle.std.proofs.lemmas.List.Sums.{sum_by-cons}
-use Rattle.std.proofs.lemmas.List.Sorted.{IsPermutation-refl, IsPermutation-cons, IsPermutation-middle, IsPermutation-trans, length_permutation, list_any-IsPermutation}
-use Rattle.std.proofs.lemmas.Bool.{ne_eqb, eq-eqb, or_from, or_parts, cond_both, cond-true, cond-false}
-use Rattle.tick_machine.specs.Lists.{insert}
+use Rattle.std.proofs.lemmas.List.Sorted.{IsPermutation-refl, IsPermutation-cons, IsPermutation-middle, IsPermutation-trans, length_permutation, list_any-IsPermutation, sum_by-IsPermutation}
+use Rattle.std.proofs.lemmas.Bool.{ltb-true, ne_eqb, eq-eqb, and_parts, or_from, or_parts, cond_both, cond-true, cond-false, cases_order}
+use Rattle.tick_machine.specs.Lists.{total, only, insert}
 use Rattle.waiting_line.specs.declared.pair.Pair.{Pair}
 use Rattle.waiting_line.specs.Lines.{stamp_of, holds}
-use Rattle.waiting_line.specs.Kept.{in_order, sorted, copies}
+use Rattle.waiting_line.specs.Kept.{all_above, in_order, sorted, copies}
 use Rattle.waiting_line.specs.Orders.{put_in_order}
+
+-- the sum over a list is the library's, so a rearrangement keeps it
+total_sum : {X : Type 0} (f : X → ℕ) (xs : List X) → total f xs ≡ sum_by f xs
+total_sum f [] = refl
+total_sum f (x ∷ xs) = omega (arith, total_sum f xs, sum_by-cons f x xs)
+
+pub total_shuffled : {X : Type 0} (f : X → ℕ) (xs ys : List X) → IsPermutation xs ys → total f ys ≡ total f xs
+total_shuffled f xs ys h = omega (arith, total_sum f xs, total_sum f ys, sum_by-IsPermutation f xs ys h)
+
+pub total_push : {X : Type 0} (f : X → ℕ) (xs : List X) (x : X) → total f (xs ++ x ∷ []) ≡ total f xs + f x
+total_push f [] x = omega arith
+total_push f (y ∷ xs) x = omega (arith, total_push f xs x)
+
+-- one more than the packet's number, where the stamp is s
+abbrev pub weight : ℕ → Pair → ℕ
+weight s p = only (s == p.stamp) (p.packet + 1)
+
+pub weight_at : (s : ℕ) (p : Pair) → s ≡ p.stamp → weight s p ≡ p.packet + 1
+weight_at s p e = cond-true (s == p.stamp) _ _ (eq-eqb _ _ e)
+
+pub weight_off : (s : ℕ) (p : Pair) → (s ≢ p.stamp) → weight s p ≡ 0
+weight_off s p n = cond-false (s == p.stamp) _ _ (ne_eqb _ _ n)
+
+-- 1 where the stamp is s
+abbrev pub hit : ℕ → Pair → ℕ
+hit s p = only (s == p.stamp) 1
+
+pub hit_at : (s : ℕ) (p : Pair) → s ≡ p.stamp → hit s p ≡ 1
+hit_at s p e = cond-true (s == p.stamp) _ _ (eq-eqb _ _ e)
+
+pub hit_off : (s : ℕ) (p : Pair) → (s ≢ p.stamp) → hit s p ≡ 0
+hit_off s p n = cond-false (s == p.stamp) _ _ (ne_eqb _ _ n)
 
 -- a pair at its place among the others
 pub insert_shuffled : (p : Pair) (ps : List Pair) → IsPermutation (p ∷ ps) (insert stamp_of p ps)
@@ -25,6 +58,39 @@ sorted_shuffled (p ∷ ps) = IsPermutation-trans (p ∷ ps) (p ∷ sorted ps) (s
 
 pub length_sorted : (ps : List Pair) → length (sorted ps) ≡ length ps
 length_sorted ps = length_permutation ps (sorted ps) (sorted_shuffled ps)
+
+pub total_sorted : (f : Pair → ℕ) (ps : List Pair) → total f (sorted ps) ≡ total f ps
+total_sorted f ps = total_shuffled f ps (sorted ps) (sorted_shuffled ps)
+
+-- a stamp below all those of a list weighs nothing
+pub light : (s u : ℕ) (ps : List Pair) → s ≤ u → all_above u ps ≡ true → total (weight s) ps ≡ 0
+light s u [] l h = refl
+light s u (p ∷ ps) l h =
+    let a = and_parts (nat_lt u p.stamp) (all_above u ps) h in
+    let q : u < p.stamp = ltb-true _ _ a.0 in
+    omega (arith, weight_off s p (omega arith), light s u ps l a.1)
+
+head_first : (p q : Pair) (ps qs : List Pair) → in_order (q ∷ qs) ≡ true → ((s : ℕ) → total (weight s) (p ∷ ps) ≡ total (weight s) (q ∷ qs)) → p.stamp < q.stamp → ⊥
+head_first p q ps qs o h l =
+    let a = and_parts (all_above q.stamp qs) (in_order qs) o in
+    omega (arith, h p.stamp, weight_at p.stamp p refl, weight_off p.stamp q (omega arith), light p.stamp q.stamp qs (omega arith) a.0)
+
+-- two lists in order with the same sums are the same
+pub same_by_sums : (ps qs : List Pair) → in_order ps ≡ true → in_order qs ≡ true → ((s : ℕ) → total (weight s) ps ≡ total (weight s) qs) → ps ≡ qs
+same_by_sums [] [] o r h = refl
+same_by_sums [] (q ∷ qs) o r h = absurd (omega (arith, h q.stamp, weight_at q.stamp q refl))
+same_by_sums (p ∷ ps) [] o r h = absurd (omega (arith, h p.stamp, weight_at p.stamp p refl))
+same_by_sums (p ∷ ps) (q ∷ qs) o r h =
+    let a = and_parts (all_above p.stamp ps) (in_order ps) o in
+    let b = and_parts (all_above q.stamp qs) (in_order qs) r in
+    ⊎_elim
+    (λ e.
+    let n : p.packet ≡ q.packet = omega (arith, h p.stamp, weight_at p.stamp p refl, weight_at p.stamp q e, light p.stamp p.stamp ps (omega arith) a.0, light p.stamp q.stamp qs (omega arith) b.0) in
+    let same : p ≡ q = λ k. record { stamp = e k; packet = n k } in
+    let tails : (s : ℕ) → total (weight s) ps ≡ total (weight s) qs = λ s. omega (arith, h s, ap (weight s) same) in
+    λ k. same k ∷ same_by_sums ps qs a.1 b.1 tails k)
+    (⊎_elim (λ l. absurd (head_first p q ps qs r h l)) (λ l. absurd (head_first q p qs ps o (λ s. sym (h s)) l)))
+    (cases_order p.stamp q.stamp)
 
 -- the test for a stamp is the library's, so sorting does not change it
 pub holds_any : (s : ℕ) (ps : List Pair) → list_any (λ p. s == p.stamp) ps ≡ holds s ps
@@ -55,6 +121,11 @@ not_there s [] h = refl
 not_there s (p ∷ ps) h =
     let a = or_parts (s == p.stamp) (holds s ps) h in
     count_no (λ q. s == q.stamp) p ps a.0 ∙ not_there s ps a.1
+
+-- the copies of a stamp are the hits on it
+pub copies_hits : (s : ℕ) (ps : List Pair) → copies s ps ≡ total (hit s) ps
+unfolding copies
+copies_hits s ps = sym (total_sum (hit s) ps)
 
 -- no stamp twice
 abbrev pub Apart : List Pair → Type 0

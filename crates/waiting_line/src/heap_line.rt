@@ -1,7 +1,8 @@
 // A line in a binary heap. A put and a take walk one path of the heap, O(log n). Beside the heap stand 8,191 counts: how many
 // pairs have a stamp with each remainder by that prime. A stamp whose count is 0 is not in the line; only another is looked for,
 // pair by pair. Its memory is reserved when it is made.
-ghost use Rattle.std.specs.Prelude.{◌≡◌, ℕ, ◌≤◌, length, slice_index};
+ghost use Rattle.std.specs.Prelude.{◌≡◌, ℕ, ◌<◌, ◌≤◌, false, [], ◌∷◌, ◌++◌, length, slice_index};
+ghost use Rattle.std.specs.List.Sorted.{IsPermutation};
 ghost use Rattle.waiting_line.specs.Lines.{holds};
 ghost use Rattle.waiting_line.specs.Kept.{by_stamp, sorted, copies, sharing};
 ghost use Rattle.std.proofs.Common.{rules, arith};
@@ -51,6 +52,18 @@ impl HeapLine {
         let pairs = self.heap.as_slice();
         self.counts.at(stamp) > 0 && pairs.iter().any(|pair| stamp == pair.stamp)
     }
+
+    // Takes a pair in. There is room, and no pair has its stamp.
+    #[tactic(auto, using(crate::proofs::Sharing::of_a_put))]
+    fn keep(&mut self, pair: Pair)
+        requires room { length self.old.heap.items < self.old.limit.most }
+        requires alone { holds pair.stamp self.old.heap.items ≡ false }
+        ensures shuffled { IsPermutation (self.old.heap.items ++ pair ∷ []) self.new.heap.items }
+        ensures limit { self.new.limit ≡ self.old.limit }
+    {
+        self.counts.raise(pair.stamp);
+        self.heap.push(pair);
+    }
 }
 
 impl WaitingLine for HeapLine {
@@ -87,8 +100,7 @@ impl WaitingLine for HeapLine {
         if self.has(pair.stamp) {
             return Err(LineRefusal::Twice);
         }
-        self.counts.raise(pair.stamp);
-        self.heap.push(pair);
+        self.keep(pair);
         Ok(())
     }
 

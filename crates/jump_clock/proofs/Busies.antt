@@ -226,7 +226,10 @@ firstly h xs v holds ordered l =
     let next = next_of h in
     let s = stands xs v next holds 0 l in
     record {
+      whole = h.layout.whole;
+      some = h.layout.some;
       small = h.small;
+      few = h.layout.few;
       same = h.same;
       tops = h.tops;
       near = near (weights_of h) next h.layout.slots h.cursor h.ticks h.owed (sound h) (get_or xs 0 blank).session;

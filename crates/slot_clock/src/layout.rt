@@ -153,17 +153,14 @@ impl Layout<SESSIONS> {
     pub fn make(weights: &[u64]) -> Result<Layout<SESSIONS>, ClockRefusal>
         ensures { MatchResult result (λ l. (l.weights.items ≡ weights.now) × (l.slots ≤ 4096) × (no_zero weights.now ≡ true)) (λ e. made_answer weights.now ≡ Err e) }
     {
-        if weights.is_empty() {
+        if weights.is_empty() || weights.len() > SESSIONS {
             return Err(ClockRefusal::Sessions);
         }
-        let Ok(own) = ArrayVec::try_from(weights) else {
-            return Err(ClockRefusal::Sessions);
-        };
         let Some(slots) = round_of(weights) else {
             return Err(ClockRefusal::Weights);
         };
         Ok(Layout {
-            weights: own,
+            weights: ArrayVec::try_from(weights).unwrap(),
             slots,
         })
     }

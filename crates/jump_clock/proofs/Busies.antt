@@ -226,7 +226,10 @@ firstly h xs v holds ordered l =
     let next = next_of h in
     let s = stands xs v next holds 0 l in
     record {
+      whole = h.layout.whole;
+      some = h.layout.some;
       small = h.small;
+      few = h.layout.few;
       same = h.same;
       tops = h.tops;
       near = near (weights_of h) next h.layout.slots h.cursor h.ticks h.owed (sound h) (get_or xs 0 blank).session;
@@ -247,6 +250,9 @@ over_none f i (suc k) = omega (arith, only_no (ltb 0 0) (f (record { end = 0; se
 pub holds_none : (xs : List Dry) (v : ℕ) (next : List ℕ) (k : ℕ) → xs ≡ [] → v ≡ 0 → next ≡ replicate k 0 → Holds xs v next
 holds_none xs v next k e z n f =
     ap (total f) e ∙ sym (over_none f 0 k) ∙ ap (λ u. over_busy f u 0 (replicate k 0)) (sym z) ∙ ap (over_busy f v 0) (sym n)
+
+pub ordered_none : (xs : List Dry) → xs ≡ [] → Ordered xs
+ordered_none xs e k a b = absurd (omega (arith, ap length e))
 
 pub holds_renewed_at : (xs ys : List Dry) (v : ℕ) (next : List ℕ) (k n i : ℕ) → (get_or xs k blank).session ≡ i → Holds xs v next → k < length xs → v < n
     → Traded xs (get_or xs k blank) (record { end = n; session = i }) ys → Holds ys v (set next i n)
@@ -274,3 +280,6 @@ missed_none v ns j l e = let t = total (λ n. only (eqb n v) 1) ns in let s = hi
 
 pub halfway_moved : (c v : ℕ) (ns : List ℕ) → c < v → halfway c v ns ≡ missed v ns
 halfway_moved c v ns l = only_yes (ltb c v) (missed v ns) (lt-ltb c v l)
+
+pub halfway_still : (c : ℕ) (ns : List ℕ) → halfway c c ns ≡ 0
+halfway_still c ns = only_no (ltb c c) (missed c ns) (le-ltb c c (omega arith))

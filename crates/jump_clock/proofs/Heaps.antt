@@ -1,18 +1,26 @@
 -- The heap of busy sessions after one change: where it may fail, and what its elements are. Assumes nothing.
 use Rattle.std.proofs.Common.{◌≡◌, ℕ, zero, suc, ◌+◌, ◌<◌, ◌≤◌, List, [], ◌∷◌, ◌++◌, length, get_or, set, sum_by, refl, ap, ◌∙◌, subst, ⊎_elim, arith, length-set, get_or-set_other, get_or-set_same}
-use Rattle.std.proofs.lemmas.Bool.{le-ltb, cases_eq}
+use Rattle.std.proofs.lemmas.Bool.{ltb-false, le-ltb, cases_eq}
 use Rattle.std.specs.List.Sorted.{IsPermutation}
 use Rattle.std.proofs.lemmas.List.{get_or_default}
 use Rattle.std.proofs.lemmas.List.Sums.{sum_by-cons}
 use Rattle.std.proofs.lemmas.List.Sorted.{sum_by-IsPermutation}
 use Rattle.tick_machine.specs.Lists.{total}
 use Rattle.tick_machine.proofs.Places.{total_push}
-use Rattle.heap_order.specs.Heaps.{parent, Heavy}
+use Rattle.heap_order.specs.Heaps.{parent, Heaped, Heavy}
 use Rattle.std.specs.List.{swap_remove}
 use Rattle.heap_order.proofs.Changes.{taken}
 use Rattle.jump_clock.specs.declared.dry.Dry.{Dry}
 use Rattle.jump_clock.specs.Ends.{blank, by_end, Ordered}
 use Rattle.jump_clock.specs.Dries.{Traded, Gained, Lost}
+
+pub ordered_of : (xs : List Dry) → Heaped by_end xs → Ordered xs
+ordered_of xs h k z l = ltb-false (get_or xs k blank).end (get_or xs (parent k) blank).end (h k blank z l)
+
+pub heaped_of : (xs : List Dry) → Ordered xs → Heaped by_end xs
+heaped_of xs h k d z l =
+    le-ltb (get_or xs k d).end (get_or xs (parent k) d).end
+    (omega (arith, h k z l, ap (λ (t : Dry). t.end) (get_or_default xs k d blank l), ap (λ (t : Dry). t.end) (get_or_default xs (parent k) d blank (omega arith))))
 
 -- a later end in one place
 pub heavy_later : (xs : List Dry) (j : ℕ) (t : Dry) → Ordered xs → j < length xs → (get_or xs j blank).end ≤ t.end → Heavy by_end (set xs j t) j

@@ -19,7 +19,7 @@ none_busy ws next left v h = still ws next left v (greatest_most next v h)
 abbrev pub busy : ℕ → List ℕ → ℕ → Bool
 busy v next j = ltb v (get_or next j 0)
 
-module _ (ws next : List ℕ) (n v at : ℕ) (whole : n ≡ round_length ws) (some : 0 < n) (a : Ahead ws next n v at) where
+module _ (ws next : List ℕ) (n v at : ℕ) (a : Ahead ws next n v at) where
   abbrev b : ℕ → Bool
   b = counted ws (busy v next)
 
@@ -27,7 +27,7 @@ module _ (ws next : List ℕ) (n v at : ℕ) (whole : n ≡ round_length ws) (so
   end = get_or next at 0
 
   positive : 0 < round_length ws
-  positive = omega (arith, whole, some)
+  positive = omega (arith, a.whole, a.some)
 
   there : (q : ℕ) → owner ws q < length next
   there q = omega (arith, owner_there ws q positive, a.same)
@@ -58,7 +58,7 @@ module _ (ws next : List ℕ) (n v at : ℕ) (whole : n ≡ round_length ws) (so
       let m = round_length ws in
       let low : s % m < m = mod-lt s positive in
       let hit : b (s % m) ≡ true = ap (λ x. busy v next (holder ws x)) (mod-eq_of_lt low) ∙ e in
-      omega (arith, count_above b (s % m) m hit low, ap (count b) whole)
+      omega (arith, count_above b (s % m) m hit low, ap (count b) a.whole)
 
   pub rises : count b v ≤ count b end
   rises = count_rises b v end (omega (arith, a.busy))

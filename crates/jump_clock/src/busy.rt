@@ -44,6 +44,13 @@ fn lower(places: &mut ArrayVec<Dry, 64>, at: usize)
     sift_down(places.as_mut_slice(), at);
 }
 
+// Where a session stands among these.
+pub fn find(places: &[Dry], session: usize) -> Option<usize>
+    ensures { MatchOption result ((k : ℕ) → k < length places.now → (slice_index_or places.now k blank).session ≢ session) (λ i. (i < length places.now) × ((slice_index_or places.now i blank).session ≡ session)) }
+{
+    places.iter().position(|dry| dry.session == session)
+}
+
 impl Busy {
     ghost use Rattle.jump_clock.specs.Dries.{items, Traded, Gained, Lost};
 
@@ -96,6 +103,6 @@ impl Busy {
     pub fn find(&self, session: usize) -> Option<usize>
         ensures { MatchOption result ((k : ℕ) → k < length (items self.now) → (slice_index_or (items self.now) k blank).session ≢ session) (λ i. (i < length (items self.now)) × ((slice_index_or (items self.now) i blank).session ≡ session)) }
     {
-        self.places.iter().position(|dry| dry.session == session)
+        find(&self.places, session)
     }
 }

@@ -33,7 +33,14 @@ fn run_on(held: &Held, busy: &mut Busy, ticks: u64) -> (u64, u64)
         let Some(first) = busy.first() else {
             break;
         };
-        let (to, rest) = jump(&held.layout, held.nexts(), v, first.session, left);
+        let (to, rest) = jump(
+            held.weights(),
+            held.layout.slots,
+            held.nexts(),
+            v,
+            first.session,
+            left,
+        );
         if to == first.end {
             busy.drop_first();
         }

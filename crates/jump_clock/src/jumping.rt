@@ -5,14 +5,14 @@ ghost use Rattle.slot_clock.specs.Held.{Room, stamp_from};
 ghost use Rattle.jump_clock.specs.Jumps.{Ahead};
 
 use slot_clock::held::Held;
-use slot_clock::layout::Layout;
+use slot_clock::layout::{rank_of, slot_from};
 
 // V and the ticks that are left, once V has come to one past the slot in which the session `at` runs dry, or the ticks are spent.
-pub fn jump(layout: &Layout<64>, next: &[u64], v: u64, at: usize, left: u64) -> (u64, u64)
-    requires ahead { Ahead layout.now.weights.items next.now layout.now.slots v at }
+pub fn jump(weights: &[u64], round: u64, next: &[u64], v: u64, at: usize, left: u64) -> (u64, u64)
+    requires ahead { Ahead weights.now next.now round v at }
     requires ticks { 1 ≤ left }
     requires few { left ≤ 17592186044416 }
-    ensures goes { ticks_cursor layout.now.weights.items next.now result.1 result.0 ≡ ticks_cursor layout.now.weights.items next.now left v }
+    ensures goes { ticks_cursor weights.now next.now result.1 result.0 ≡ ticks_cursor weights.now next.now left v }
     ensures less { result.1 < left }
     ensures within { result.0 ≤ slice_index next.now at }
     ensures ahead { v < result.0 }
@@ -20,12 +20,12 @@ pub fn jump(layout: &Layout<64>, next: &[u64], v: u64, at: usize, left: u64) -> 
 {
     let end = next[at];
     let busy = move |session: usize| v < next[session];
-    let before = layout.rank(&busy, v);
-    let through = layout.rank(&busy, end) - before;
+    let before = rank_of(weights, round, &busy, v);
+    let through = rank_of(weights, round, &busy, end) - before;
     if through <= left {
         (end, left - through)
     } else {
-        (layout.slot_from(&busy, v, left - 1) + 1, 0)
+        (slot_from(weights, round, &busy, v, left - 1) + 1, 0)
     }
 }
 
@@ -36,5 +36,5 @@ pub fn jump_stamp(held: &Held, session: u64, size: u64, from: u64) -> u64
 {
     let session = session as usize;
     let own = move |other: usize| other == session;
-    held.layout.slot_from(&own, from, size - 1)
+    slot_from(held.weights(), held.layout.slots, &own, from, size - 1)
 }

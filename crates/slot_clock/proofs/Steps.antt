@@ -2,13 +2,13 @@
 use Rattle.std.proofs.Common.{◌≡◌, ℕ, zero, suc, ◌+◌, ◌-◌, ◌<◌, ◌≤◌, min, Bool, true, false, cond, eqb, List, [], ◌∷◌, length, sym, refl, ap, ◌∙◌, ⊎_elim, arith}
 use Rattle.std.specs.Prelude.{◌*◌, Some, slice_get}
 use Rattle.std.specs.List.{filter, range_with_len}
-use Rattle.std.proofs.lemmas.Bool.{cases_lt, cases_Bool, both_ways, cond-true, cond-false, eq-eqb}
+use Rattle.std.proofs.lemmas.Bool.{cases_lt, cases_Bool, both_ways, cond-true, cond-false, eq-eqb, ne_eqb}
 use Rattle.tick_machine.specs.Lists.{final, All, count}
 use Rattle.tick_machine.specs.Slots.{round_length, owner, own_slots}
 use Rattle.tick_machine.specs.Round.{Round, serve, round_ticks}
 use Rattle.tick_machine.specs.Owed.{from, kept, greatest, owed_slots, shown_round}
-use Rattle.slot_clock.specs.Walk.{due, ticks_cursor}
-use Rattle.slot_clock.specs.Counts.{count_rises, count_pass, count_fail, count_one}
+use Rattle.slot_clock.specs.Walk.{below, due, ticks_cursor}
+use Rattle.slot_clock.specs.Counts.{count_rises, count_pass, count_fail, count_one, count_from, count_below}
 use Rattle.slot_clock.specs.Walks.{ticks_more}
 use Rattle.slot_clock.specs.Rounds.{ticks_shown, ticks_length, owed_falls}
 use Rattle.slot_clock.specs.Reaches.{Stamped, stamped}
@@ -91,3 +91,34 @@ stamp_nth ws each i n low slots known long e =
     let h : Stamped ws i n low last = stamped ws each i n low known long in
     let m : n * slots ≡ n * round_length ws = ap (λ x. n * x) e in
     kept_nth (λ q. eqb (owner ws q) i) (n * slots) low (n - 1) last h.low (omega (arith, h.near, m)) (eq-eqb (owner ws last) i h.own) (omega (arith, h.rank))
+
+-- the walk to a stamp
+module _ (ws : List ℕ) (each : All (λ w. 1 ≤ w) ws) (i n low : ℕ) (known : i < length ws) (long : 1 ≤ n) where
+  abbrev mine : ℕ → Bool
+  mine = λ q. eqb (owner ws q) i
+
+  abbrev last : ℕ
+  last = final 0 (own_slots ws i n low)
+
+  pub last_is : Stamped ws i n low last
+  last_is = stamped ws each i n low known long
+
+  last_mine : mine last ≡ true
+  last_mine = eq-eqb (owner ws last) i last_is.own
+
+  pub not_past : (q left : ℕ) → below ws i q + left ≡ below ws i low + n → 1 ≤ left → q ≤ last
+  not_past q left e l = count_from mine q last last_mine (omega (arith, last_is.rank))
+
+  pub arrived : (q : ℕ) → below ws i q ≡ below ws i low + n → q ≤ last + 1 → q - 1 ≡ last
+  arrived q e u = let past = count_below mine last q (omega (arith, last_is.rank)) in omega arith
+
+-- one slot further
+pub below_own : (ws : List ℕ) (i q : ℕ) → owner ws q ≡ i → below ws i (q + 1) ≡ below ws i q + 1
+below_own ws i q e =
+    let b : q + 1 ≡ suc q = omega arith in
+    omega (arith, ap (below ws i) b, count_pass (λ q. eqb (owner ws q) i) q (eq-eqb (owner ws q) i e))
+
+pub below_other : (ws : List ℕ) (i q : ℕ) → (owner ws q ≡ i → ⊥) → below ws i (q + 1) ≡ below ws i q
+below_other ws i q e =
+    let b : q + 1 ≡ suc q = omega arith in
+    omega (arith, ap (below ws i) b, count_fail (λ q. eqb (owner ws q) i) q (ne_eqb (owner ws q) i e))

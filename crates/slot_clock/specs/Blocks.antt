@@ -1,9 +1,10 @@
 -- Blocks of positions: the code's loops and closed forms give owners and counts. Nothing else here looks into the blocks. Assumes nothing.
 use Rattle.std.specs.Prelude.{◌≡◌, ℕ, zero, suc, ◌+◌, ◌-◌, ◌*◌, ◌/◌, ◌%◌, ◌<◌, ◌≤◌, min, Bool, true, false, List, [], ◌∷◌, length, drop, nat_lt, slice_index, refl}
 use Rattle.std.proofs.Math.Path.{sym, ap}
-use Rattle.std.proofs.Common.{subst, ◌∙◌, ⊎_elim, add-one, zero-add, suc-add, mod-lt}
+use Rattle.std.proofs.Common.{subst, ◌∙◌, ⊎_elim, add-one, zero-add, suc-add, mod-lt, drop-cons}
 use native.Mathlib.Omega.{arith}
 use Rattle.std.proofs.Math.Nat.{add-mod_right, mod-eq_of_lt, div-add-mod, mul-add-mod_self_left}
+use Rattle.std.proofs.lemmas.List.{drop_all}
 use Rattle.std.proofs.lemmas.Bool.{lt-ltb, le-ltb, cases_lt, cases_Bool, cond-true, cond-false}
 use Rattle.tick_machine.specs.Lists.{only, count}
 use Rattle.tick_machine.specs.Slots.{round_length, holder, owner}
@@ -21,6 +22,13 @@ times_least m zero l = absurd (omega arith)
 pub record Left (ws : List ℕ) (position i p : ℕ) : Type 0 where
   pub within : p < round_length (drop i ws)
   pub same : holder ws position ≡ i + holder (drop i ws) p
+  pub there : i < length ws
+
+left_there : (ws : List ℕ) (i p : ℕ) → p < round_length (drop i ws) → i < length ws
+left_there [] zero p h = absurd (omega arith)
+left_there [] (suc i) p h = absurd (omega arith)
+left_there (w ∷ ws) zero p h = omega arith
+left_there (w ∷ ws) (suc i) p h = omega (arith, left_there ws i p h)
 
 left_step : (ws : List ℕ) (i p : ℕ) → p < round_length (drop i ws) → slice_index ws i ≤ p
     → (p - slice_index ws i < round_length (drop (suc i) ws)) × (holder (drop i ws) p ≡ suc (holder (drop (suc i) ws) (p - slice_index ws i)))
@@ -35,13 +43,54 @@ left_found [] (suc i) p h l = absurd (omega arith)
 left_found (w ∷ ws) zero p h l = holder_front w p ws l
 left_found (w ∷ ws) (suc i) p h l = left_found ws i p (omega arith) l
 
+pub left_first : (ws : List ℕ) (p : ℕ) → p < round_length ws → Left ws p 0 p
+left_first ws p h = record { within = h; same = omega arith; there = left_there ws 0 p h }
+
 pub left_next : (ws : List ℕ) (position i p : ℕ) → Left ws position i p → slice_index ws i ≤ p → Left ws position (i + 1) (p - slice_index ws i)
 left_next ws position i p h l =
     let s = left_step ws i p h.within l in
-    rw add-one (record { within = s.0; same = omega (arith, h.same, s.1) })
+    rw add-one (record { within = s.0; same = omega (arith, h.same, s.1); there = left_there ws (suc i) (p - slice_index ws i) s.0 })
 
-pub left_last : (ws : List ℕ) (position i p : ℕ) → Left ws position i p → i < length ws → p < slice_index ws i → i ≡ holder ws position
-left_last ws position i p h k l = omega (arith, h.same, left_found ws i p k l)
+pub left_last : (ws : List ℕ) (position i p : ℕ) → Left ws position i p → p < slice_index ws i → i ≡ holder ws position
+left_last ws position i p h l = omega (arith, h.same, left_found ws i p h.there l)
+
+-- the loops over the sessions
+pub round_more : (ws : List ℕ) (i : ℕ) → i < length ws → round_length (drop i ws) ≡ slice_index ws i + round_length (drop (i + 1) ws)
+round_more ws i l = rw add-one (ap round_length (drop-cons ws i 0 l))
+
+module _ (b : ℕ → Bool) (ws : List ℕ) (i : ℕ) where
+  module _ (l : i < length ws) where
+    at_head : drop i ws ≡ slice_index ws i ∷ drop (suc i) ws
+    at_head = drop-cons ws i 0 l
+
+    pub whole_more : whole b i (drop i ws) ≡ only (b i) (slice_index ws i) + whole b (i + 1) (drop (i + 1) ws)
+    whole_more = rw add-one (ap (whole b i) at_head)
+
+    pub part_more : (p : ℕ) → part b i (drop i ws) p ≡ only (b i) (min p (slice_index ws i)) + part b (i + 1) (drop (i + 1) ws) (p - slice_index ws i)
+    part_more p = rw add-one (ap (λ vs. part b i vs p) at_head)
+
+    pub place_here : (u : ℕ) → b i ≡ true → u < slice_index ws i → place b i (drop i ws) u ≡ u
+    place_here u e k = ap (λ vs. place b i vs u) at_head ∙ cond-true (b i) _ _ e ∙ cond-true (nat_lt u (slice_index ws i)) _ _ (lt-ltb u (slice_index ws i) k)
+
+    pub place_past : (u : ℕ) → b i ≡ true → slice_index ws i ≤ u → place b i (drop i ws) u ≡ slice_index ws i + place b (i + 1) (drop (i + 1) ws) (u - slice_index ws i)
+    place_past u e k = rw add-one (ap (λ vs. place b i vs u) at_head ∙ cond-true (b i) _ _ e ∙ cond-false (nat_lt u (slice_index ws i)) _ _ (le-ltb u (slice_index ws i) k))
+
+    pub place_idle : (u : ℕ) → b i ≡ false → place b i (drop i ws) u ≡ slice_index ws i + place b (i + 1) (drop (i + 1) ws) u
+    place_idle u e = rw add-one (ap (λ vs. place b i vs u) at_head ∙ cond-false (b i) _ _ e)
+
+  pub whole_end : length ws ≤ i → whole b i (drop i ws) ≡ 0
+  whole_end l = ap (whole b i) (drop_all i ws l)
+
+  pub part_end : (p : ℕ) → length ws ≤ i → part b i (drop i ws) p ≡ 0
+  part_end p l = ap (λ vs. part b i vs p) (drop_all i ws l)
+
+pub whole_most : (b : ℕ → Bool) (i : ℕ) (ws : List ℕ) → whole b i ws ≤ round_length ws
+whole_most b i [] = omega arith
+whole_most b i (w ∷ ws) = omega (arith, only_at_most (b i) w, whole_most b (suc i) ws)
+
+pub part_most : (b : ℕ → Bool) (i : ℕ) (ws : List ℕ) (p : ℕ) → part b i ws p ≤ round_length ws
+part_most b i [] p = omega arith
+part_most b i (w ∷ ws) p = omega (arith, only_at_most (b i) (min p w), part_most b (suc i) ws (p - w))
 
 part_none : (b : ℕ → Bool) (i : ℕ) (ws : List ℕ) → part b i ws 0 ≡ 0
 part_none b i [] = refl

@@ -1,5 +1,5 @@
 -- What a slot clock's calls answer, by what it holds. Assumes nothing.
-use Rattle.std.specs.Prelude.{◌≡◌, ℕ, ◌+◌, ◌-◌, ◌*◌, ◌^◌, ◌<◌, ◌≤◌, true, false, ◌&&◌, ltb, ◌⊎◌, length, Ok, Err, nat_le, nat_lt, slice_index, slice_set}
+use Rattle.std.specs.Prelude.{◌≡◌, ℕ, zero, suc, ◌+◌, ◌-◌, ◌*◌, ◌^◌, ◌<◌, ◌≤◌, true, false, ◌&&◌, ltb, ◌⊎◌, List, [], ◌∷◌, length, take, Ok, Err, nat_le, nat_lt, slice_index, slice_set}
 use Rattle.std.proofs.Math.Path.{refl, sym, ap}
 use Rattle.std.proofs.Common.{◌∙◌, arith}
 use Rattle.std.proofs.Math.Logic.{⊎_elim}
@@ -16,6 +16,12 @@ use Rattle.slot_clock.specs.declared.held.Held.{Held}
 use Rattle.slot_clock.specs.Held.{weights_of, next_of, held_state, Room}
 use Rattle.slot_clock.specs.Rounds.{owed_sum, owed_at, owed_below, ticks_shown}
 use Rattle.slot_clock.specs.Sound.{Sound, each_heavy, early, near, from_near, stamp_near, stamp_is, stamp_own, added, sound_added, sound_passed}
+
+pub take_set : {X : Type 0} (n : ℕ) (l : List X) (i : ℕ) (x : X) → take n (slice_set l i x) ≡ slice_set (take n l) i x
+take_set zero l i x = refl
+take_set (suc n) [] i x = refl
+take_set (suc n) (y ∷ l) zero x = refl
+take_set (suc n) (y ∷ l) (suc i) x = ap (λ t. y ∷ t) (take_set n l i x)
 
 module _ (h : Held) where
   pub sound : Sound (weights_of h) (next_of h) h.layout.slots h.cursor h.ticks h.owed

@@ -1,22 +1,33 @@
 // A slot clock that goes slot by slot. It looks at one slot after another and asks whose it is; it stops once as many
 // were served as ticks passed or as bytes were owed, so that it does not go on when nothing is owed.
-ghost use Rattle.std.specs.Prelude.{◌≡◌, ◌+◌, ◌<◌, ◌≤◌};
+ghost use Rattle.std.specs.Prelude.{◌≡◌, ◌+◌, ◌*◌, ◌^◌, ◌<◌, ◌≤◌, true, length};
+ghost use Rattle.tick_machine.specs.Lists.{final};
+ghost use Rattle.tick_machine.specs.Slots.{round_length, own_slots};
+ghost use Rattle.tick_machine.specs.Owed.{owed_slots};
+ghost use Rattle.slot_clock.specs.Calls.{no_zero};
+ghost use Rattle.slot_clock.specs.Walk.{ticks_cursor, Tops};
 ghost use Rattle.slot_clock.specs.Held.{held_state, Room, cursor_after, stamp_from};
 ghost use Rattle.slot_clock.specs.Holding.{held_served, held_sized, held_early, held_near};
 
 use crate::clock::SlotClock;
 use crate::held::Held;
+use crate::layout::owner_of;
 use crate::refusal::ClockRefusal;
 
 // V after so many ticks. A `while`: it counts the slots that it looks at and the ticks that it serves apart, so that no range of either ends it, and by
 // `nth`, as below, a move that serves no slot would be a case of its own.
-fn after(held: &Held, ticks: u64) -> u64
-    ensures { result ≡ cursor_after held.now ticks }
+fn walk(weights: &[u64], round: u64, next: &[u64], cursor: u64, owed: u64, ticks: u64) -> u64
+    requires whole { round ≡ round_length weights.now }
+    requires some { 0 < round }
+    requires same { length next.now ≡ length weights.now }
+    requires tops { Tops weights.now next.now }
+    requires owed { owed ≡ length (owed_slots weights.now cursor next.now) }
+    ensures { result ≡ ticks_cursor weights.now next.now ticks cursor }
 {
-    let mut v = held.cursor;
-    let mut left = ticks.min(held.owed);
+    let mut v = cursor;
+    let mut left = ticks.min(owed);
     while left > 0 {
-        if v < held.next[held.layout.owner(v)] {
+        if v < next[owner_of(weights, round, v)] {
             left -= 1;
         }
         v += 1;
@@ -26,14 +37,45 @@ fn after(held: &Held, ticks: u64) -> u64
 
 // The stamp: the highest of the session's so many lowest slots from a slot on. Each round has one of its slots, so that as many
 // rounds have them all.
+fn walk_stamp(weights: &[u64], round: u64, session: usize, size: u64, from: u64) -> u64
+    requires whole { round ≡ round_length weights.now }
+    requires some { 0 < round }
+    requires each { no_zero weights.now ≡ true }
+    requires known { session < length weights.now }
+    requires long { 1 ≤ size }
+    requires near { from + size * round < 2 ^ 62 }
+    ensures { result ≡ final 0 (own_slots weights.now session size from) }
+{
+    (from..from + size * round)
+        .filter(|q| owner_of(weights, round, *q) == session)
+        .nth((size - 1) as usize)
+        .unwrap()
+}
+
+fn after(held: &Held, ticks: u64) -> u64
+    ensures { result ≡ cursor_after held.now ticks }
+{
+    walk(
+        held.weights(),
+        held.layout.slots,
+        held.nexts(),
+        held.cursor,
+        held.owed,
+        ticks,
+    )
+}
+
 fn stamp_of(held: &Held, session: u64, size: u64, from: u64) -> u64
     requires { Room held.now session size from }
     ensures { result ≡ stamp_from held.now session size from }
 {
-    (from..from + size * held.layout.slots)
-        .filter(|q| held.layout.owner(*q) == session as usize)
-        .nth((size - 1) as usize)
-        .unwrap()
+    walk_stamp(
+        held.weights(),
+        held.layout.slots,
+        session as usize,
+        size,
+        from,
+    )
 }
 
 #[derive(Drop)]

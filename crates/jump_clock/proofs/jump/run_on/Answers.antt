@@ -16,8 +16,9 @@ jump-to-requires-clause-ahead c =
     let h = c.args.held.now in
     let b = c.loop-left.busy in
     let f = c.in-Some.ensures in
-    subst (λ n. Ahead (weights_of h) n h.layout.slots c.loop-left.v c.in-Some.first.session) (sym c.nexts.ensures)
-    (subst (λ (x : Dry). Ahead (weights_of h) (next_of h) h.layout.slots c.loop-left.v x.session) (sym f.1) (firstly h (items b) c.loop-left.v c.loop-left.invariant.2 b.ordered f.0))
+    subst (λ ws. Ahead ws c.nexts.result.now h.layout.slots c.loop-left.v c.in-Some.first.session) (sym c.weights.ensures)
+    (subst (λ n. Ahead (weights_of h) n h.layout.slots c.loop-left.v c.in-Some.first.session) (sym c.nexts.ensures)
+    (subst (λ (x : Dry). Ahead (weights_of h) (next_of h) h.layout.slots c.loop-left.v x.session) (sym f.1) (firstly h (items b) c.loop-left.v c.loop-left.invariant.2 b.ordered f.0)))
 
 pub returns-in_default-clause-is : goal.returns-in_default-clause-is
 returns-in_default-clause-is c =
@@ -35,7 +36,8 @@ loop-left-preserved c =
     let o = c.jump-to.ensures in
     let there = c.nexts.ensures in
     let goes : ticks_cursor (weights_of h) next c.jump-to.result.1 c.jump-to.result.0 ≡ ticks_cursor (weights_of h) next c.loop-left.left v
-    = subst (λ n. ticks_cursor (weights_of h) n c.jump-to.result.1 c.jump-to.result.0 ≡ ticks_cursor (weights_of h) n c.loop-left.left v) there o.goes in
+    = subst (λ ws. ticks_cursor ws next c.jump-to.result.1 c.jump-to.result.0 ≡ ticks_cursor ws next c.loop-left.left v) c.weights.ensures
+    (subst (λ n. ticks_cursor c.weights.result.now n c.jump-to.result.1 c.jump-to.result.0 ≡ ticks_cursor c.weights.result.now n c.loop-left.left v) there o.goes) in
     let to = c.jump-to.result.0 in
     let f = c.in-Some.ensures in
     let ends : c.in-Some.first.end ≡ (get_or xs 0 blank).end = ap (λ (x : Dry). x.end) f.1 in

@@ -6,46 +6,47 @@ use Rattle.jump_clock.proofs.jumping.jump.Goals as goal
 
 pub overflow_sub-through : goal.overflow_sub-through
 overflow_sub-through c =
-    let l = c.args.layout.now in
+    let ws = c.args.weights.now in
+    let n = c.args.round in
     let next = c.args.next.now in
     let b = busy c.args.v next in
     let a = c.requires.ahead in
     omega (
       arith,
-      rises l.weights.items next l.slots c.args.v c.args.at l.whole l.some a,
-      c.rank-before.ensures.is b (λ j r p. search rules),
-      c.rank.ensures.is b (λ j r p. search rules),
+      rises ws next n c.args.v c.args.at a,
+      c.rank_of-before.ensures.is b (λ j r p. search rules),
+      c.rank_of.ensures.is b (λ j r p. search rules),
     )
 
 pub slot_from-requires : goal.slot_from-requires
 slot_from-requires c =
-    let l = c.args.layout.now in
+    let ws = c.args.weights.now in
+    let n = c.args.round in
     let next = c.args.next.now in
-    let a = c.requires.ahead in (
-      search rules,
-      (
-        λ j k. search rules,
-        (
-          (busy c.args.v next, λ j r p. search rules, busy_hit l.weights.items next l.slots c.args.v c.args.at l.whole l.some a),
-          jump_near l.weights.items next l.slots c.args.v c.args.at l.whole l.some a c.args.left c.requires.ticks c.requires.few,
-        ),
-      ),
-    )
+    let a = c.requires.ahead in
+    record {
+      whole = a.whole;
+      some = a.some;
+      callable = λ j k. search rules;
+      hit = (busy c.args.v next, λ j r p. search rules, busy_hit ws next n c.args.v c.args.at a);
+      near = jump_near ws next n c.args.v c.args.at a c.args.left c.requires.ticks c.requires.few;
+    }
 
 pub returns-then-through-left : goal.returns-then-through-left
 returns-then-through-left c =
-    let l = c.args.layout.now in
+    let ws = c.args.weights.now in
+    let n = c.args.round in
     let next = c.args.next.now in
     let v = c.args.v in
     let at = c.args.at in
     let b = busy v next in
     let a = c.requires.ahead in
-    let through = c.rank.result - c.rank-before.result in
-    let e : count (counted l.weights.items b) v + through ≡ count (counted l.weights.items b) (get_or next at 0)
-    = omega (arith, rises l.weights.items next l.slots v at l.whole l.some a, c.rank-before.ensures.is b (λ j r p. search rules), c.rank.ensures.is b (λ j r p. search rules)) in
-    let some = dry_some l.weights.items next l.slots v at l.whole l.some a through c.args.left e c.if-through-left.true in
+    let through = c.rank_of.result - c.rank_of-before.result in
+    let e : count (counted ws b) v + through ≡ count (counted ws b) (get_or next at 0)
+    = omega (arith, rises ws next n v at a, c.rank_of-before.ensures.is b (λ j r p. search rules), c.rank_of.ensures.is b (λ j r p. search rules)) in
+    let some = dry_some ws next n v at a through c.args.left e c.if-through-left.true in
     record {
-      goes = dry_goes l.weights.items next l.slots v at l.whole l.some a through c.args.left e c.if-through-left.true;
+      goes = dry_goes ws next n v at a through c.args.left e c.if-through-left.true;
       less = omega (arith, some, c.requires.ticks);
       within = omega arith;
       ahead = a.busy;
@@ -54,20 +55,22 @@ returns-then-through-left c =
 
 pub overflow_add-result : goal.overflow_add-result
 overflow_add-result c =
-    let l = c.args.layout.now in
+    let ws = c.args.weights.now in
+    let n = c.args.round in
     let next = c.args.next.now in
     let v = c.args.v in
     let at = c.args.at in
     let b = busy v next in
     let a = c.requires.ahead in
-    let less : count (counted l.weights.items b) v + c.args.left < count (counted l.weights.items b) (get_or next at 0)
-    = omega (arith, rises l.weights.items next l.slots v at l.whole l.some a, c.rank-before.ensures.is b (λ j r p. search rules), c.rank.ensures.is b (λ j r p. search rules), c.if-through-left.false) in
-    let below = stop_below l.weights.items next l.slots v at l.whole l.some a c.args.left c.slot_from.result c.requires.ticks less (c.slot_from.ensures.counts b (λ j r p. search rules)) (c.slot_from.ensures.rank b (λ j r p. search rules)) in
-    omega (arith, below, next_near l.weights.items next l.slots v at l.whole l.some a)
+    let less : count (counted ws b) v + c.args.left < count (counted ws b) (get_or next at 0)
+    = omega (arith, rises ws next n v at a, c.rank_of-before.ensures.is b (λ j r p. search rules), c.rank_of.ensures.is b (λ j r p. search rules), c.if-through-left.false) in
+    let below = stop_below ws next n v at a c.args.left c.slot_from.result c.requires.ticks less (c.slot_from.ensures.counts b (λ j r p. search rules)) (c.slot_from.ensures.rank b (λ j r p. search rules)) in
+    omega (arith, below, next_near ws next n v at a)
 
 pub returns-else-through-left : goal.returns-else-through-left
 returns-else-through-left c =
-    let l = c.args.layout.now in
+    let ws = c.args.weights.now in
+    let n = c.args.round in
     let next = c.args.next.now in
     let v = c.args.v in
     let at = c.args.at in
@@ -76,12 +79,12 @@ returns-else-through-left c =
     let s = c.slot_from.result in
     let mine = c.slot_from.ensures.counts b (λ j r p. search rules) in
     let rank = c.slot_from.ensures.rank b (λ j r p. search rules) in
-    let less : count (counted l.weights.items b) v + c.args.left < count (counted l.weights.items b) (get_or next at 0)
-    = omega (arith, rises l.weights.items next l.slots v at l.whole l.some a, c.rank-before.ensures.is b (λ j r p. search rules), c.rank.ensures.is b (λ j r p. search rules), c.if-through-left.false) in
+    let less : count (counted ws b) v + c.args.left < count (counted ws b) (get_or next at 0)
+    = omega (arith, rises ws next n v at a, c.rank_of-before.ensures.is b (λ j r p. search rules), c.rank_of.ensures.is b (λ j r p. search rules), c.if-through-left.false) in
     record {
-      goes = stop_goes l.weights.items next l.slots v at l.whole l.some a c.args.left s c.requires.ticks less mine rank;
+      goes = stop_goes ws next n v at a c.args.left s c.requires.ticks less mine rank;
       less = c.requires.ticks;
-      within = omega (arith, stop_below l.weights.items next l.slots v at l.whole l.some a c.args.left s c.requires.ticks less mine rank);
-      ahead = omega (arith, stop_from l.weights.items next l.slots v at l.whole l.some a c.args.left s c.requires.ticks less mine rank);
+      within = omega (arith, stop_below ws next n v at a c.args.left s c.requires.ticks less mine rank);
+      ahead = omega (arith, stop_from ws next n v at a c.args.left s c.requires.ticks less mine rank);
       dry = λ z. absurd (omega arith);
     }

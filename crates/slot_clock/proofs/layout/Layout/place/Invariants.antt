@@ -1,8 +1,0 @@
-use Rattle.std.proofs.Common.{◌≡◌, ℕ, ◌+◌, Bool, drop}
-use Rattle.tick_machine.specs.Slots.{round_length}
-use Rattle.slot_clock.specs.Layout.{Tells, place}
-use Rattle.slot_clock.proofs.layout.Layout.place.Given as goal
-
-abbrev pub invariant-loop-i : goal.invariant-loop-i
-invariant-loop-i g l = ((b : ℕ → Bool) → Tells (goal.F-post g l.counts) b → l.start + place b l.i (drop l.i l.self.weights.items) l.u ≡ place b 0 l.self.weights.items l.before)
-    × (l.start + round_length (drop l.i l.self.weights.items) ≡ round_length l.self.weights.items)

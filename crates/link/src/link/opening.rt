@@ -1,4 +1,5 @@
 // A link that was just opened.
+ghost use Rattle.std.specs.Prelude.{◌≡◌, ◌≤◌, replicate, vec_len, vec_capacity};
 ghost use Rattle.link.specs.Opened.{Opened};
 
 use super::Link;
@@ -6,6 +7,19 @@ use crate::draft::Draft;
 use crate::session::Session;
 use slot_clock::clock::SlotClock;
 use waiting_line::line::WaitingLine;
+
+// So many records of sessions of which nothing is known yet, in memory that was had before. (By `resize` an archive for C would need a way to have more.)
+fn records(memory: Vec<Session>, many: usize) -> Vec<Session>
+    requires room { many ≤ vec_capacity memory }
+    requires empty { vec_len memory ≡ 0 }
+    ensures { result.items ≡ replicate many (record { accepted = 0; sent = 0 }) }
+{
+    let mut sessions = memory;
+    for _ in 0..many {
+        sessions.push_reserved(Session::default());
+    }
+    sessions
+}
 
 impl<W: WaitingLine, S: SlotClock> Link<W, S> {
     // The link of the draft, over that slot clock, with clock 0 and no packet.
@@ -18,12 +32,12 @@ impl<W: WaitingLine, S: SlotClock> Link<W, S> {
             largest,
             round: _,
             weights,
-            mut sessions,
+            sessions: memory,
             table,
             left,
             out,
         } = draft;
-        sessions.resize(weights.len(), Session::default()).unwrap();
+        let sessions = records(memory, weights.len());
         Link {
             waiting,
             slots,

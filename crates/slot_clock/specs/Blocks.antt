@@ -24,7 +24,7 @@ pub record Left (ws : List ℕ) (position i p : ℕ) : Type 0 where
   pub same : holder ws position ≡ i + holder (drop i ws) p
   pub there : i < length ws
 
-left_there : (ws : List ℕ) (i p : ℕ) → p < round_length (drop i ws) → i < length ws
+pub left_there : (ws : List ℕ) (i p : ℕ) → p < round_length (drop i ws) → i < length ws
 left_there [] zero p h = absurd (omega arith)
 left_there [] (suc i) p h = absurd (omega arith)
 left_there (w ∷ ws) zero p h = omega arith

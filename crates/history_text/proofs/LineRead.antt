@@ -1,7 +1,5 @@
 -- A line read field by field. Assumes nothing.
-use Rattle.std.proofs.Common.{◌≡◌, ℕ, ◌+◌, List, [], ◌∷◌, length, Some, Ok, Err, Result, MatchResult, sym, ap, ◌∙◌, eqb, count_by, arith}
-use Rattle.std.proofs.lemmas.List.Splits.{length-slice_split}
-use Rattle.history_text.specs.Cuts.{cut}
+use Rattle.std.proofs.Common.{◌≡◌, ℕ, ◌+◌, List, [], ◌∷◌, length, Some, Ok, Err, Result, MatchResult, sym, ap, ◌∙◌, arith}
 use Rattle.history_text.specs.declared.words.Word.{Word}
 use Rattle.history_text.specs.declared.commands.Phase.{Phase}
 use Rattle.history_text.specs.declared.commands.Command.{Command}
@@ -12,14 +10,6 @@ use Rattle.history_text.specs.Vocabulary.{word}
 use Rattle.history_text.specs.Fields.{shown, kind, word_in, First, later, onward}
 use Rattle.history_text.specs.Readings.{judged, numbers, commanded, asked, reading}
 use Rattle.history_text.proofs.KindOf.{word_in_kind}
-
--- as many fields come after the first as there are spaces
-pub fields_after : (line : List ℕ) → count_by (λ x. eqb x 32) line ≡ length (later (cut 32 line))
-fields_after line = after_first (cut 32 line) (length-slice_split (λ x. eqb x 32) line)
-  where
-    after_first : (ls : List (List ℕ)) → length ls ≡ count_by (λ x. eqb x 32) line + 1 → count_by (λ x. eqb x 32) line ≡ length (later ls)
-    after_first [] e = omega arith
-    after_first (l ∷ ls) e = omega arith
 
 word_shown : (p : Phase) (f : List ℕ) (fs : List (List ℕ)) (g : Field) (n : ℕ) → shown g.token ≡ kind f → n ≡ length fs → judged p (word_in (shown g.token)) n ≡ judged p (word f) (length fs)
 word_shown p f fs g n k e = λ i. judged p ((ap word_in k ∙ sym (word_in_kind f)) i) (e i)

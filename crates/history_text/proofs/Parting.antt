@@ -48,3 +48,8 @@ spread_cut s (x ∷ xs) =
 
 pub length_cut : (s : ℕ) (xs : List ℕ) → length (cut s xs) ≤ length xs + 1
 length_cut s xs = omega (arith, length-slice_split (λ x. eqb x s) xs, count_by-le-length (λ x. eqb x s) xs)
+
+-- each part takes a byte at least
+pub length_spread : (parts : List (List ℕ)) → length parts ≤ spread parts
+length_spread [] = omega arith
+length_spread (part ∷ parts) = omega (arith, length_spread parts)

@@ -8,7 +8,7 @@ ghost use Rattle.history_text.specs.Parts.{left};
 //
 // The library's `split` gives the same parts, but its iterator holds a closure, and a loop over such a one gets no statement that antt takes where
 // the function around it has a type parameter and the loop an invariant, as in `print_history`.
-#[derive(Debug, Drop)]
+#[derive(Clone, Copy, Debug)]
 pub struct Parts<'a> {
     rest: Option<&'a [u8]>,
     at: u8,

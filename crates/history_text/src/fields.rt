@@ -1,5 +1,5 @@
 // The fields of a line, one after another. A field borrows the line and knows the byte at which it begins, counted from 1.
-ghost use Rattle.std.specs.Prelude.{◌≡◌, ◌+◌, ◌≤◌, ◌^◌};
+ghost use Rattle.std.specs.Prelude.{◌≡◌, ◌+◌, ◌≤◌, ◌^◌, length};
 ghost use Rattle.history_text.specs.Cuts.{cut, spread};
 ghost use Rattle.history_text.specs.Parts.{left};
 
@@ -22,7 +22,7 @@ pub struct Field<'a> {
 }
 
 // The fields that are still to come, the first of which begins at `place`.
-#[derive(Debug, Drop)]
+#[derive(Clone, Copy, Debug)]
 pub struct Fields<'a> {
     parts: Parts<'a>,
     place: usize,
@@ -91,6 +91,14 @@ impl<'a> Fields<'a> {
             parts: Parts::of(line, b' '),
             place: 1,
         }
+    }
+
+    // How many are still to come.
+    #[tactic(auto, using(crate::proofs::Parting::length_spread))]
+    pub fn count(&self) -> usize
+        ensures { result ≡ length (coming self.now) }
+    {
+        self.parts.count()
     }
 
     // The number of the next field.

@@ -2,11 +2,12 @@
 ghost use Rattle.std.specs.Prelude.{◌≡◌, ◌<◌, length};
 ghost use Rattle.history_text.specs.Numerals.{amount, numeral};
 
-// The number that the digits write, if each byte is one and the number fits. The library also takes a plus in front, which is no digit.
+// The number that the digits write, if each byte is one and the number fits. Where the first is none, no other is looked at; the library, which goes
+// over all of them, would also take a plus there.
 fn amount_of(digits: &[u8]) -> Option<u64>
     ensures { 0 < length digits.now → result ≡ amount 0 digits.now }
 {
-    if digits.starts_with(b"+") {
+    if !digits.first()?.is_ascii_digit() {
         return None;
     }
     str::from_utf8(digits).ok()?.parse::<u64>().ok()

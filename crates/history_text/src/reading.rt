@@ -2,7 +2,7 @@
 ghost use Rattle.std.specs.Prelude.{◌≡◌, length, IfOk};
 ghost use Rattle.history_text.specs.Cuts.{cut};
 ghost use Rattle.history_text.specs.Vocabulary.{arity};
-ghost use Rattle.history_text.specs.Fields.{shown, word_in, coming, later};
+ghost use Rattle.history_text.specs.Fields.{shown, word_in, coming};
 ghost use Rattle.history_text.specs.Readings.{in_turn, judged, numbers, commanded, reading};
 
 use crate::commands::{Command, Phase};
@@ -30,10 +30,10 @@ fn is_in_turn(phase: Phase, word: Word) -> bool
     }
 }
 
-// The word of a line, with so many fields after it.
-fn judge(phase: Phase, token: Token, after: usize) -> Result<Word, Cause>
-    ensures value { result ≡ judged phase (word_in (shown token.entry)) after }
-    ensures counted { IfOk result (λ w. after ≡ arity w) }
+// The word of a line, with the fields after it. They are counted only where the word is in turn.
+fn judge(phase: Phase, token: Token, after: &Fields) -> Result<Word, Cause>
+    ensures value { result ≡ judged phase (word_in (shown token.entry)) (length (coming after.now)) }
+    ensures counted { IfOk result (λ w. length (coming after.now) ≡ arity w) }
 {
     let Token::Word(bytes) = token else {
         return Err(Cause::Unknown);
@@ -42,7 +42,7 @@ fn judge(phase: Phase, token: Token, after: usize) -> Result<Word, Cause>
     if !is_in_turn(phase, word) {
         return Err(Cause::Untimely);
     }
-    if after != word.arity() {
+    if after.count() != word.arity() {
         return Err(Cause::Miscounted);
     }
     Ok(word)
@@ -77,25 +77,16 @@ fn command_from(word: Word, fields: &mut Fields) -> Result<Command, Fault>
     }
 }
 
-// How many fields come after the first: one for each space.
-#[tactic(auto, using(crate::proofs::LineRead::fields_after))]
-fn count_after_first(line: &[u8]) -> usize
-    ensures { result ≡ length (later (cut 32 line.now)) }
-{
-    line.iter().filter(|b| **b == b' ').count()
-}
-
-// What all fields of a line ask for, with so many after the first.
-fn read_fields(phase: Phase, fields: &mut Fields, after: usize) -> Result<Command, Fault>
-    requires first { fields.old.place ≡ 1 }
-    requires counted { after ≡ length (later (coming fields.old)) }
+// What all fields of a line ask for.
+fn read_fields(phase: Phase, fields: &mut Fields) -> Result<Command, Fault>
+    requires { fields.old.place ≡ 1 }
     ensures { result ≡ reading phase (coming fields.old) }
 {
     let first = fields.next().ok_or(Fault {
         cause: Cause::Unknown,
         byte: 1,
     })?;
-    let word = judge(phase, first.token, after).map_err(|cause| Fault {
+    let word = judge(phase, first.token, fields).map_err(|cause| Fault {
         cause,
         byte: first.place,
     })?;
@@ -107,5 +98,5 @@ pub fn read(phase: Phase, line: &[u8]) -> Result<Command, Fault>
     ensures { result ≡ reading phase (cut 32 line.now) }
 {
     let mut fields = Fields::of(line);
-    read_fields(phase, &mut fields, count_after_first(line))
+    read_fields(phase, &mut fields)
 }

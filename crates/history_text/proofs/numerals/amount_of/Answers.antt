@@ -4,7 +4,7 @@ use Rattle.history_text.proofs.NumberRead.{no_text, parsed}
 use Rattle.history_text.proofs.numerals.amount_of.Goals as goal
 
 pub returns-in_err-ok : goal.returns-in_err-ok
-returns-in_err-ok c l = c.from_residual.ensures ∙ no_text c.args.digits.now (search rules)
+returns-in_err-ok c l = c.from_residual-in_err-ok.ensures ∙ no_text c.args.digits.now (search rules)
 
 pub returns : goal.returns
 returns c l =

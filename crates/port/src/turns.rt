@@ -29,6 +29,13 @@ pub fn turn<W: WaitingLine, S: SlotClock>(
     }
 }
 
+// How many records are turned: as many as there are, and places for their answers.
+fn many(calls: &[CallRecord], answers: &[AnswerRecord]) -> usize
+    ensures { result ≡ min (length calls.now) (length answers.now) }
+{
+    calls.len().min(answers.len())
+}
+
 // Every record, in order, for as many as there are places for answers. They are told of a link just opened.
 pub fn turn_all<W: WaitingLine, S: SlotClock>(
     link: &mut Link<W, S>,
@@ -42,7 +49,7 @@ pub fn turn_all<W: WaitingLine, S: SlotClock>(
     ensures held { Reached W.WaitingLine S.SlotClock (record { link = link.new; slips = slips.new.items }) }
     ensures room { vec_capacity slips.new ≡ vec_capacity slips.old }
 {
-    let count = calls.len().min(answers.len());
+    let count = many(calls, answers);
     // the places are named by their index, since nothing is known of what a `zip` over `iter_mut` has written
     for (i, asked) in calls[..count].iter().enumerate() {
         answers[i] = turn(link, slips, *asked);

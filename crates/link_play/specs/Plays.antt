@@ -13,8 +13,9 @@ use Rattle.tick_machine.specs.Slots.{round_length}
 use Rattle.tick_machine.specs.Desk.{first}
 use Rattle.tick_machine.specs.Machine.{Config, Machine}
 use Rattle.tick_machine.specs.Life.{after, answer, slip_of, settling, drafted}
+use Rattle.link.specs.declared.link.Link.{Link}
+use Rattle.link.specs.Promise.{Led}
 use Rattle.replay.specs.History.{adding_answers}
-use Rattle.replay.specs.Hand.{InHand, Held}
 use Rattle.link_play.specs.declared.step.Step.{Step}
 use Rattle.link_play.specs.declared.step.Step.TheVariants as step
 
@@ -60,28 +61,34 @@ history_replies number (Ok c) ws steps = Made number ∷ draft_replies c ws step
 history_replies number (Err e) ws steps = Refused e ∷ []
 
 module _ {W S : Type 0} (line : WaitingLine W) (clock : SlotClock S) where
-  -- after those calls, the next slip was taken and settled so, or none was there
-  pub record Spent (how : Settlement) (c : Config) (calls : List Call) (said : Answer) (d' : InHand W S) : Type 0 where
-    pub told : said ≡ Collected (next_slip c (after c calls))
-    pub held : Held line clock c (spending (settling how) (next_slip c (after c calls)) ++ calls) d'
+  -- some history led to the link
+  pub record Reached (l : Link W S) : Type 0 where
+    pub config : Config
+    pub calls : List Call
+    pub led : Led line clock config calls l
 
-  abbrev pub Spends : Settlement → InHand W S → Answer → InHand W S → Type 0
-  Spends how d said d' = (c : Config) (calls : List Call) → Held line clock c calls d → Spent how c calls said d'
+  -- after those calls, the next slip was taken and settled so, or none was there
+  pub record Spent (how : Settlement) (c : Config) (calls : List Call) (said : Answer) (l' : Link W S) : Type 0 where
+    pub told : said ≡ Collected (next_slip c (after c calls))
+    pub led : Led line clock c (spending (settling how) (next_slip c (after c calls)) ++ calls) l'
+
+  abbrev pub Spends : Settlement → Link W S → Answer → Link W S → Type 0
+  Spends how l said l' = (c : Config) (calls : List Call) → Led line clock c calls l → Spent how c calls said l'
 
   -- after those calls, a step was answered as the tick machine answers it, and its calls led on
-  pub record Played (step : Step) (c : Config) (calls : List Call) (said : Answer) (d' : InHand W S) : Type 0 where
+  pub record Played (step : Step) (c : Config) (calls : List Call) (said : Answer) (l' : Link W S) : Type 0 where
     pub told : said ≡ answer c (after c calls) (asked step)
-    pub held : Held line clock c (calls_of c (after c calls) step ++ calls) d'
+    pub led : Led line clock c (calls_of c (after c calls) step ++ calls) l'
 
-  abbrev pub Plays : Step → InHand W S → Answer → InHand W S → Type 0
-  Plays step d said d' = (c : Config) (calls : List Call) → Held line clock c calls d → Played step c calls said d'
+  abbrev pub Plays : Step → Link W S → Answer → Link W S → Type 0
+  Plays step l said l' = (c : Config) (calls : List Call) → Led line clock c calls l → Played step c calls said l'
 
   -- some steps were played: the calls that led here, and what is still to be answered for the others
-  pub record Playing (c : Config) (calls : List Call) (steps : List Step) (before : List Answer) (rest : List Step) (behind : List Answer) (d : InHand W S) : Type 0 where
+  pub record Playing (c : Config) (calls : List Call) (steps : List Step) (before : List Answer) (rest : List Step) (behind : List Answer) (l : Link W S) : Type 0 where
     pub since : List Call
-    pub held : Held line clock c since d
+    pub led : Led line clock c since l
     pub tells : behind ++ replies c since rest ≡ before ++ replies c calls steps
 
   -- all steps were played
-  abbrev pub Answered : InHand W S → List Step → List Answer → List Answer → Type 0
-  Answered d steps before behind = (c : Config) (calls : List Call) → Held line clock c calls d → behind ≡ before ++ replies c calls steps
+  abbrev pub Answered : Link W S → List Step → List Answer → List Answer → Type 0
+  Answered l steps before behind = (c : Config) (calls : List Call) → Led line clock c calls l → behind ≡ before ++ replies c calls steps

@@ -33,9 +33,10 @@ fn play<W: WaitingLine + Drop, S: SlotClock + Drop>(
     requires { (c : Config) × Drafts W.WaitingLine c draft }
     ensures { (c : Config) → Drafts W.WaitingLine c draft → Plays c calls.now answers.old answers.new result }
 {
-    let (mut desk, _) = Desk::<W, S>::open(heap, draft)?;
-    turn_all(&mut desk, calls, answers);
-    desk.close();
+    let (desk, _) = Desk::<W, S>::open(heap, draft)?;
+    let (mut link, mut slips) = desk.into_parts();
+    turn_all(&mut link, &mut slips, calls, answers);
+    Desk::new(link, slips).close();
     Ok(())
 }
 
@@ -71,14 +72,15 @@ fn prepare_and_open<W: WaitingLine + Drop, S: SlotClock + Drop>(
 
 // Says that the link is open, answers calls for as long as they come, and returns the slips that are left over.
 fn serve_opened<W: WaitingLine + Drop, S: SlotClock + Drop>(
-    mut desk: Desk<W, S>,
+    desk: Desk<W, S>,
     round: u64,
     requests: i32,
     answers: i32,
 ) -> Result<(), Unwritten> {
     let heard = write_answer(answers, Answer::Opened(round).into());
-    let _ = serve(&mut desk, requests, answers);
-    desk.close();
+    let (mut link, mut slips) = desk.into_parts();
+    let _ = serve(&mut link, &mut slips, requests, answers);
+    Desk::new(link, slips).close();
     heard
 }
 

@@ -1,7 +1,11 @@
 // Calls that come one by one by a descriptor.
+ghost use Rattle.std.specs.Prelude.{◌≡◌, ◌≤◌, vec_capacity};
+ghost use Rattle.replay.specs.Hand.{Reached};
+
 use crate::records::{AnswerRecord, CallRecord};
 use crate::turns::turn;
-use replay::desk::Desk;
+use link::link::Link;
+use link::slip::Slip;
 use slot_clock::clock::SlotClock;
 use waiting_line::line::WaitingLine;
 
@@ -30,16 +34,22 @@ pub fn write_answer(answers: i32, said: AnswerRecord) -> Result<(), Unwritten> {
 
 // Answers calls until they end or an answer cannot be written.
 pub fn serve<W: WaitingLine, S: SlotClock>(
-    desk: &mut Desk<W, S>,
+    link: &mut Link<W, S>,
+    slips: &mut Vec<Slip>,
     requests: i32,
     answers: i32,
-) -> Result<(), Unwritten> {
+) -> Result<(), Unwritten>
+    requires held { Reached W.WaitingLine S.SlotClock (record { link = link.old; slips = slips.old.items }) }
+    requires places { 1024 ≤ vec_capacity slips.old }
+    ensures held { Reached W.WaitingLine S.SlotClock (record { link = link.new; slips = slips.new.items }) }
+    ensures room { vec_capacity slips.new ≡ vec_capacity slips.old }
+{
     // the calls come for as long as they come, and a loop with no bound at all would need leave to wait
     for _ in 0..u64::MAX {
         let Some(asked) = read_call(requests) else {
             break;
         };
-        write_answer(answers, turn(desk, asked))?;
+        write_answer(answers, turn(link, slips, asked))?;
     }
     Ok(())
 }

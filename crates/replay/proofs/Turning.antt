@@ -1,16 +1,16 @@
 -- One call more, and one adding more. Assumes nothing.
-use Rattle.std.proofs.Common.{◌≡◌, ℕ, ◌+◌, ◌<◌, List, [], ◌∷◌, ◌++◌, reverse, length, get_or, take, Ok, Err, Result, sym, refl, ap, ◌∙◌, subst, append_assoc}
+use Rattle.std.proofs.Common.{◌≡◌, ℕ, ◌+◌, ◌<◌, List, [], ◌∷◌, ◌++◌, reverse, length, get_or, take, Result, sym, refl, ap, ◌∙◌, subst, append_assoc}
 use mathlib.Core.List.{reverse-append}
 use Rattle.std.proofs.lemmas.List.{take_more}
 use Rattle.waiting_line.specs.declared.line.WaitingLine.{Ghosts as WaitingLine}
 use Rattle.slot_clock.specs.declared.clock.SlotClock.{Ghosts as SlotClock}
 use Rattle.tick_machine.specs.declared.refusal.Refusal.{Refusal}
 use Rattle.tick_machine.specs.declared.call.Call.{Call}
-use Rattle.tick_machine.specs.declared.call.Call.TheVariants.{Arrive, MoveTo}
+use Rattle.tick_machine.specs.declared.call.Call.TheVariants.{MoveTo}
 use Rattle.tick_machine.specs.declared.call.Answer.{Answer}
 use Rattle.tick_machine.specs.declared.call.Answer.TheVariants.{Added}
-use Rattle.tick_machine.specs.Machine.{Config, Machine}
-use Rattle.tick_machine.specs.Life.{adding, added, drafted, told, arrival, move, accepted, steps, if_granted, after, answers}
+use Rattle.tick_machine.specs.Machine.{Config}
+use Rattle.tick_machine.specs.Life.{adding, added, drafted, told, move, after, answers}
 use Rattle.link.specs.declared.draft.Draft.{Draft}
 use Rattle.link.specs.declared.link.Link.{Link}
 use Rattle.link.specs.declared.slip.Slip.{Slip}
@@ -21,20 +21,13 @@ use Rattle.link.proofs.Outs.{move_out}
 use Rattle.replay.specs.History.{adding_answers}
 use Rattle.replay.specs.Hand.{InHand, Held, Answered, Called, AddedAll}
 
--- packets out after a clock move and an arrival
-pub move_to_out : (c : Config) (calls : List Call) (t : ℕ) → (after c (MoveTo t ∷ calls)).desk.out ≡ (after c calls).desk.out
+-- packets out after a clock move
+move_to_out : (c : Config) (calls : List Call) (t : ℕ) → (after c (MoveTo t ∷ calls)).desk.out ≡ (after c calls).desk.out
 move_to_out c calls t = move_out c (after c calls) (move c t (after c calls)) _
-
-arrival_out : {X : Type 0} (c : Config) (m : Machine) (r : Result X Refusal) (i n tag : ℕ) → (steps c (if_granted r (accepted i n tag ∷ [])) m).desk.out ≡ m.desk.out
-arrival_out c m (Ok x) i n tag = refl
-arrival_out c m (Err e) i n tag = refl
-
-pub arrive_out : (c : Config) (calls : List Call) (i n tag : ℕ) → (after c (Arrive i n tag ∷ calls)).desk.out ≡ (after c calls).desk.out
-arrive_out c calls i n tag = arrival_out c (after c calls) (arrival c i n (after c calls)) i n tag
 
 module _ {W S : Type 0} {line : WaitingLine W} {clock : SlotClock S} where
   -- a call that changes no packet out
-  pub stays : {c : Config} {calls : List Call} {l l' : Link W S} {ss : List Slip} {call : Call} {said : Answer}
+  stays : {c : Config} {calls : List Call} {l l' : Link W S} {ss : List Slip} {call : Call} {said : Answer}
       → Held line clock c calls (record { link = l; slips = ss }) → Goes line clock c calls l call said l' → (after c (call ∷ calls)).desk.out ≡ (after c calls).desk.out
       → Held line clock c (call ∷ calls) (record { link = l'; slips = ss })
   stays h g e = record { led = g.led; out = h.out ∙ sym e; own = h.own }

@@ -1,4 +1,5 @@
-// A desk: an open link together with the slips in hand, those that it has handed out and that are not settled yet.
+// A desk: an open link together with the slips in hand, those that it has handed out and that are not settled yet. What it does is also a
+// function of a link and slips that stand apart.
 ghost use Rattle.std.specs.Prelude.{◌≡◌, ◌+◌, ◌≤◌, [], length, vec_len, vec_capacity, IfOk, MatchResult, ◌<◌, OnOk};
 ghost use Rattle.tick_machine.specs.declared.call.Call.TheVariants.{Collect};
 ghost use Rattle.tick_machine.specs.Machine.{Config};
@@ -51,8 +52,26 @@ fn take(own: u64, slips: &mut Vec<Slip>, number: u64, packet: u64) -> Result<Sli
     }
 }
 
+// A collection: the slip that is handed out comes into hand.
+pub fn collect<W: WaitingLine, S: SlotClock>(link: &mut Link<W, S>, slips: &mut Vec<Slip>) -> Answer
+    requires held { Reached W.WaitingLine S.SlotClock (record { link = link.old; slips = slips.old.items }) }
+    requires places { 1024 ≤ vec_capacity slips.old }
+    ensures answered { Answers W.WaitingLine S.SlotClock (record { link = link.old; slips = slips.old.items }) Collect result (record { link = link.new; slips = slips.new.items }) }
+    ensures room { vec_capacity slips.new ≡ vec_capacity slips.old }
+{
+    match link.collect() {
+        Some(slip) => {
+            let says = slip.copy();
+            slips.push_reserved(slip);
+            Answer::Collected(Some(says))
+        }
+        None => Answer::Collected(None),
+    }
+}
+
 // The slip of that link number and packet number, of those in hand of the link, is settled so. It asks nothing of the past: a slip that the link refuses,
 // as it never does in a history, stays in hand.
+#[tactic(auto, using(crate::proofs::Hands::in_hand_granted))]
 pub fn settle<W: WaitingLine, S: SlotClock>(
     link: &mut Link<W, S>,
     slips: &mut Vec<Slip>,
@@ -72,6 +91,67 @@ pub fn settle<W: WaitingLine, S: SlotClock>(
             }
         },
         Err(e) => Answer::Refused(e),
+    }
+}
+
+// A call of an open link, with the slips in hand. (An arm for each: what differs is the call, and not how its answer is told.)
+pub fn answer<W: WaitingLine, S: SlotClock>(
+    link: &mut Link<W, S>,
+    slips: &mut Vec<Slip>,
+    call: Call,
+) -> Answer
+    requires held { Reached W.WaitingLine S.SlotClock (record { link = link.old; slips = slips.old.items }) }
+    requires places { 1024 ≤ vec_capacity slips.old }
+    ensures answered { Answers W.WaitingLine S.SlotClock (record { link = link.old; slips = slips.old.items }) call result (record { link = link.new; slips = slips.new.items }) }
+    ensures room { vec_capacity slips.new ≡ vec_capacity slips.old }
+{
+    match call {
+        Call::Arrive(session, size, tag) => link.arrive(session, size, tag).map_or_else(
+            Answer::Refused,
+            |(number, stamp, latest)| Answer::Accepted(number, stamp, latest),
+        ),
+        Call::MoveTo(tick) => link
+            .move_to(tick)
+            .map_or_else(Answer::Refused, |left| Answer::Moved(tick, left)),
+        Call::Collect => collect(link, slips),
+        Call::File(number, packet) => settle(link, slips, Settlement::File, number, packet),
+        Call::Return(number, packet) => settle(link, slips, Settlement::Return, number, packet),
+        Call::AskFigures(session) => link
+            .figures(session)
+            .map_or_else(Answer::Refused, Answer::FiguresAre),
+        Call::AskTotals => Answer::TotalsAre(link.totals()),
+    }
+}
+
+// Every call, in order: their answers come after those that are there. They are told of a link just opened.
+pub fn call_all<W: WaitingLine, S: SlotClock>(
+    link: &mut Link<W, S>,
+    slips: &mut Vec<Slip>,
+    calls: &[Call],
+    answers: &mut Vec<Answer>,
+)
+    requires held { Reached W.WaitingLine S.SlotClock (record { link = link.old; slips = slips.old.items }) }
+    requires places { 1024 ≤ vec_capacity slips.old }
+    requires room { vec_len answers.old + length calls.now ≤ vec_capacity answers.old }
+    ensures called { (c : Config) → Held W.WaitingLine S.SlotClock c [] (record { link = link.old; slips = slips.old.items }) → Called W.WaitingLine S.SlotClock c calls.now answers.old.items (record { link = link.new; slips = slips.new.items }) answers.new.items }
+    ensures held { Reached W.WaitingLine S.SlotClock (record { link = link.new; slips = slips.new.items }) }
+    ensures room { vec_capacity slips.new ≡ vec_capacity slips.old }
+{
+    for call in calls {
+        answers.push_reserved(answer(link, slips, *call));
+    }
+}
+
+// Every slip in hand is returned.
+pub fn return_all<W: WaitingLine, S: SlotClock>(link: &mut Link<W, S>, slips: &mut Vec<Slip>)
+    requires held { Reached W.WaitingLine S.SlotClock (record { link = link.old; slips = slips.old.items }) }
+    ensures none { vec_len slips.new ≡ 0 }
+    ensures held { Reached W.WaitingLine S.SlotClock (record { link = link.new; slips = slips.new.items }) }
+    ensures room { vec_capacity slips.new ≡ vec_capacity slips.old }
+{
+    while let Some(slip) = slips.first() {
+        let says = slip.copy();
+        let _ = settle(link, slips, Settlement::Return, says.link, says.packet);
     }
 }
 
@@ -125,14 +205,7 @@ impl<W: WaitingLine, S: SlotClock> Desk<W, S> {
     pub fn collect(&mut self) -> Answer
         ensures { Answers W.WaitingLine S.SlotClock self.old Collect result self.new }
     {
-        match self.link.collect() {
-            Some(slip) => {
-                let says = slip.copy();
-                self.slips.push_reserved(slip);
-                Answer::Collected(Some(says))
-            }
-            None => Answer::Collected(None),
-        }
+        collect(&mut self.link, &mut self.slips)
     }
 
     // The slip of that link number and packet number is settled so. A slip in hand is never refused.
@@ -142,28 +215,11 @@ impl<W: WaitingLine, S: SlotClock> Desk<W, S> {
         settle(&mut self.link, &mut self.slips, how, number, packet)
     }
 
-    // A call of the link. (An arm for each: what differs is the call, and not how its answer is told.)
+    // A call of the link.
     pub fn answer(&mut self, call: Call) -> Answer
         ensures { Answers W.WaitingLine S.SlotClock self.old call result self.new }
     {
-        match call {
-            Call::Arrive(session, size, tag) => self.link.arrive(session, size, tag).map_or_else(
-                Answer::Refused,
-                |(number, stamp, latest)| Answer::Accepted(number, stamp, latest),
-            ),
-            Call::MoveTo(tick) => self
-                .link
-                .move_to(tick)
-                .map_or_else(Answer::Refused, |left| Answer::Moved(tick, left)),
-            Call::Collect => self.collect(),
-            Call::File(number, packet) => self.settle(Settlement::File, number, packet),
-            Call::Return(number, packet) => self.settle(Settlement::Return, number, packet),
-            Call::AskFigures(session) => self
-                .link
-                .figures(session)
-                .map_or_else(Answer::Refused, Answer::FiguresAre),
-            Call::AskTotals => Answer::TotalsAre(self.link.totals()),
-        }
+        answer(&mut self.link, &mut self.slips, call)
     }
 
     // Every call, in order, of a link just opened: their answers come after those that are there.
@@ -171,19 +227,14 @@ impl<W: WaitingLine, S: SlotClock> Desk<W, S> {
         requires { vec_len answers.old + length calls.now ≤ vec_capacity answers.old }
         ensures { (c : Config) → Held W.WaitingLine S.SlotClock c [] self.old → Called W.WaitingLine S.SlotClock c calls.now answers.old.items self.new answers.new.items }
     {
-        for call in calls {
-            answers.push_reserved(self.answer(*call));
-        }
+        call_all(&mut self.link, &mut self.slips, calls, answers);
     }
 
     // Every slip in hand is returned.
     pub fn return_all(&mut self)
         ensures { self.new.slips ≡ [] }
     {
-        while let Some(slip) = self.slips.first() {
-            let says = slip.copy();
-            let _ = self.settle(Settlement::Return, says.link, says.packet);
-        }
+        return_all(&mut self.link, &mut self.slips);
     }
 
     // Every slip in hand is returned, and the link is let go.

@@ -1,11 +1,15 @@
-use Rattle.std.proofs.Common.{◌≡◌, ◌∷◌, Some, rules}
+use Rattle.std.proofs.Common.{◌∷◌}
 use Rattle.tick_machine.specs.declared.call.Call.TheVariants.{Collect}
-use Rattle.tick_machine.specs.declared.call.Answer.TheVariants.{Collected}
-use Rattle.link_play.proofs.Replies.{spent}
+use Rattle.link_play.proofs.Replies.{just_taken_granted, spent}
 use Rattle.link_play.proofs.play.take_and_settle.Goals as goal
 
-pub returns-in-Collected-Some : goal.returns-in-Collected-Some
-returns-in-Collected-Some g c f calls h =
-    let taken = c.collect-taken.ensures f calls h in
-    let says : c.collect-taken.result ≡ Collected (Some c.in-Collected-Some.says) = search rules in
-    spent c.args.how says taken (c.settle.ensures f (Collect ∷ calls) taken.held)
+pub unreachable-requires : goal.unreachable-requires
+unreachable-requires g c =
+    let k = c.requires in
+    let goes = c.in-Some.ensures k.config k.calls k.led in
+    just_taken_granted goes _ _ c.args.how (c.in-Err.ensures.keeps k.config (Collect ∷ k.calls) goes.led)
+
+pub returns-in-Ok : goal.returns-in-Ok
+returns-in-Ok g c f calls h =
+    let goes = c.in-Some.ensures f calls h in
+    spent goes c.args.how c.copy-says.result _ _ c.copy-says.ensures (c.in-Ok.ensures.keeps f (Collect ∷ calls) goes.led)

@@ -5,6 +5,8 @@
 #[cfg(test)]
 mod crossing;
 #[cfg(test)]
+mod desks;
+#[cfg(test)]
 mod follow;
 #[cfg(test)]
 mod histories;
